@@ -1,0 +1,6 @@
+pub mod Answers
+pub mod Bytes
+pub mod Histories
+pub mod Order
+pub mod Rows
+pub mod Tables

@@ -1,0 +1,3 @@
+// Links between nodes, each kept once and in order.
+pub mod answer;
+pub mod table;

@@ -1,0 +1,4 @@
+pub mod Bytes
+pub mod Links
+pub mod Refusals
+pub mod Rows
