@@ -1,0 +1,4 @@
+pub mod Clause
+pub mod Codes
+pub mod Numbers
+pub mod OneAnswer
