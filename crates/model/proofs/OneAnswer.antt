@@ -20,6 +20,7 @@ use Rattle.model.specs.Coders.{BitWritten, PrefixWritten, SealWritten, FlushWr
 use Rattle.model.specs.Refusals.{Answer}
 use Rattle.model.specs.Settled.{Settles, Calls-are-settled}
 use Rattle.model.specs.Sinks.{Sink, Emitted, Encoded}
+use Rattle.model.proofs.CellLists.{length-bits}
 
 -- ---- ends of lists
 
@@ -38,10 +39,6 @@ not-empty [] x e = let z : _≡_ {A = ℕ} 0 1 = cc in omega arith
 not-empty (y ∷ s) x e = let z : _≡_ {A = ℕ} 0 1 = cc in omega arith
 
 -- ---- marks, newest cell first
-
-pub length-bits : (bs : List Bool) → length (bits bs) ≡ length bs
-length-bits [] = refl
-length-bits (b ∷ bs) = ap suc (length-bits bs)
 
 length-zeros : (n : ℕ) → length (bits (zeros n)) ≡ n
 length-zeros n = length-bits (zeros n) ∙ length-replicate n false

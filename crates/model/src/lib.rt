@@ -2,6 +2,7 @@
 // link sets and runs mean. The contracts of all other crates cite these definitions.
 pub mod examples;
 pub mod golomb;
+pub mod histories;
 pub mod link;
 pub mod refusal;
 pub mod settled;
