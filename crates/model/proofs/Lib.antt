@@ -3,5 +3,7 @@ pub mod Clause
 pub mod Codes
 pub mod Numbers
 pub mod OneAnswer
+pub mod Packing
 pub mod Queues
 pub mod Stacks
+pub mod Steps
