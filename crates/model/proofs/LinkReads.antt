@@ -2,10 +2,10 @@
 use mathlib.Core.Path.{_≡_, refl, sym, ap, ap₂, _∙_, subst}
 use mathlib.Core.Bool.{Bool}
 use mathlib.Core.List.{List, [], _∷_, _++_, append-assoc}
-use mathlib.Core.Logic.{_⊎_, inl, inr, ⊎-elim}
+use mathlib.Core.Logic.{⊎-elim}
 use Prim.Native.Nat.{ℕ, zero, suc, _+_, _^_, _<_, _≤_}
 use native.Mathlib.Omega.{arith}
-use lib.ListN.{length, take, drop, length-append}
+use lib.ListN.{length, drop, length-append}
 use Rattle.std.proofs.shelf.Tests.{cases-lt}
 use Rattle.std.specs.declared.option.Option.{Option}
 use Rattle.std.specs.declared.option.Option.the-variants.{Some, None}
@@ -125,8 +125,7 @@ link-read b x (c ∷ cs) cs′ s i hd he lo hi e =
     let e′ : c ∷ cs ≡ bits (codeword (s .d)) ++ mid =
     e ∙ ap (λ t. t ++ cs′) (bits-append (codeword (s .d)) (codeword (s .e))) ∙ append-assoc (bits (codeword (s .d))) (bits (codeword (s .e))) cs′ in
     let low : b .low + s .d < 2 ^ 32 = subst (λ (n : ℕ). n < 2 ^ 32) (ap (λ y. y .low) i ∙ link-low b s) lo in
-    let high : linkAt b s .high < 2 ^ 32 = subst (λ (y : Link). y .high < 2 ^ 32) i hi in
-    (
+    let high : linkAt b s .high < 2 ^ 32 = subst (λ (y : Link). y .high < 2 ^ 32) i hi in (
       Ok (s .d),
       mid,
       number-read (c ∷ cs) mid (s .d) hd e′,

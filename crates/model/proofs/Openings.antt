@@ -1,9 +1,9 @@
 -- Opening a run: which places open, to which cells, and that opening is settled and always answers.
-use mathlib.Core.Path.{_≡_, refl, sym, ap, ap₂, _∙_, subst}
+use mathlib.Core.Path.{_≡_, refl, sym, ap, _∙_, subst}
 use mathlib.Core.Bool.{Bool, true, false}
 use mathlib.Core.List.{List, [], _∷_, _++_, append-assoc, append-nil, reverse, reverse-reverse}
-use mathlib.Core.Logic.{_⊎_, inl, inr, ⊎-elim}
-use Prim.Native.Nat.{ℕ, zero, suc, _+_, _-_, _*_, _%_, _<_, _≤_}
+use mathlib.Core.Logic.{inl, inr, ⊎-elim}
+use Prim.Native.Nat.{ℕ, zero, suc, _-_, _%_, _<_}
 use native.Mathlib.Omega.{arith}
 use native.Mathlib.Numerals.{add-one}
 use lib.ListN.{length, replicate, length-append, length-replicate}
@@ -11,13 +11,13 @@ use Rattle.std.proofs.shelf.Lists.{replicate-more}
 use Rattle.std.specs.declared.result.Result.the-variants.{Ok, Err}
 use Rattle.model.specs.declared.refusal.Refusal.the-variants.{Unsealed, BadRecord, Bare}
 use Rattle.model.specs.Bits.{lowBits, zeros}
-use Rattle.model.specs.Cells.{Place, word, fault, Fits, wordPlaces, Cell, bit, bad, bits, cellsOf, mark}
+use Rattle.model.specs.Cells.{Place, word, fault, Fits, wordPlaces, Cell, bad, bits, cellsOf, mark}
 use Rattle.model.specs.Coders.{SealTaken}
 use Rattle.model.specs.Links.{Each}
 use Rattle.model.specs.Reading.{RunOpened}
 use Rattle.model.specs.Refusals.{Answer}
 use Rattle.model.specs.Runs.{sealedWords, sealed}
-use Rattle.model.proofs.CellLists.{length-bits, bits-append, reverse-bits}
+use Rattle.model.proofs.CellLists.{bits-append, reverse-bits}
 use Rattle.model.proofs.OneAnswer.{calls-are-settled, reverse-same}
 use Rattle.model.proofs.Packing.{length-lowBits, last-one, at-edge, length-cellsOf, cellsOf-append, cells-sealed, sealed-mark, places-sealed}
 

@@ -1,8 +1,7 @@
 -- Runs stand for link sets: a run is read exactly when it is one link set's, and two runs have equal words exactly when their sets are equal.
-use mathlib.Core.Path.{_≡_, refl, sym, ap, ap₂, _∙_, subst}
-use mathlib.Core.Bool.{Bool}
-use mathlib.Core.Logic.{_⊎_, inl, inr, _↔_}
-use mathlib.Core.List.{List, [], reverse, reverse-reverse}
+use mathlib.Core.Path.{_≡_, refl, sym, ap, _∙_, subst}
+use mathlib.Core.Logic.{_⊎_, inl, inr}
+use mathlib.Core.List.{List, [], reverse-reverse}
 use Prim.Native.Nat.{ℕ, _<_}
 use native.Mathlib.Omega.{arith}
 use lib.ListN.{length}
@@ -20,7 +19,7 @@ use Rattle.model.specs.Golomb.{codewords}
 use Rattle.model.specs.Links.{Each, LinkSet, SameLinks}
 use Rattle.model.specs.Reading.{RunOpened, LinksRead, ReadWhole, ReadStopped, at-opening, at-link}
 use Rattle.model.specs.Refusals.{Answer}
-use Rattle.model.specs.Runs.{RunStop, start, symbols, sealedWords, heldAfter, runOf}
+use Rattle.model.specs.Runs.{RunStop, start, symbols, heldAfter, runOf}
 use Rattle.model.proofs.LinkReads.{links-are, links-read, links-once, links-end}
 use Rattle.model.proofs.Openings.{opened-is, sealed-opens, opened-once, opened-some}
 use Rattle.model.proofs.Steps.{after-start, ascending, same-list}
@@ -28,6 +27,10 @@ use Rattle.model.proofs.Steps.{after-start, ascending, same-list}
 -- a link set and its run
 abbrev pub IsRun : ℕ → List Place → List Link → Type 0
 IsRun w ps xs = LinkSet xs × (ps ≡ wordPlaces (runOf w xs))
+
+-- read whole, or refused
+abbrev pub Answered : ℕ → List Place → Type 0
+Answered w ps = ((xs : List Link) × ReadWhole w ps xs) ⊎ ((xs : List Link) × (f : RunStop) × (left : List Cell) × ReadStopped w ps xs f left)
 
 -- what is read whole is a run
 pub whole-is : (w : ℕ) (ps : List Place) (xs : List Link) → 0 < w → Each (Fits w) ps → ReadWhole w ps xs → IsRun w ps xs
@@ -91,15 +94,14 @@ module _ (w : ℕ) (ps : List Place) (pos : 0 < w) where
       let i : d ≡ e = cc in
       (stop-same (length xs) (length ys) d e (ap length (l .0)) i, l .0, l .2)
 
-  -- read whole, or one refusal
-  some-end : ((xs : List Link) × ReadWhole w ps xs) ⊎ ((xs : List Link) × (f : RunStop) × (left : List Cell) × ReadStopped w ps xs f left)
+  some-end : Answered w ps
   some-end = let (r, coming, o) = opened-some w ps pos in by-opening r coming o
     where
-      by-links : (opened : List Cell) (xs : List Link) (ending : Option Refusal) (left : List Cell) → RunOpened w ps (Ok tt) opened → LinksRead start opened xs ending left → ((xs : List Link) × ReadWhole w ps xs) ⊎ ((xs : List Link) × (f : RunStop) × (left : List Cell) × ReadStopped w ps xs f left)
+      by-links : (opened : List Cell) (xs : List Link) (ending : Option Refusal) (left : List Cell) → RunOpened w ps (Ok tt) opened → LinksRead start opened xs ending left → Answered w ps
       by-links opened xs None left o l = inl (xs, record { opened = opened; opens = o; left = left; reads = l })
       by-links opened xs (Some why) left o l = inr (xs, record { index = length xs; why = why }, left, at-link o l)
 
-      by-opening : (r : Answer (Unit {0})) (coming : List Cell) → RunOpened w ps r coming → ((xs : List Link) × ReadWhole w ps xs) ⊎ ((xs : List Link) × (f : RunStop) × (left : List Cell) × ReadStopped w ps xs f left)
+      by-opening : (r : Answer (Unit {0})) (coming : List Cell) → RunOpened w ps r coming → Answered w ps
       by-opening (Err why) coming o = inr ([], record { index = 0; why = why }, coming, at-opening o)
       by-opening (Ok tt) coming o = let (xs, ending, left, l) = links-end start coming in by-links coming xs ending left o l
 
@@ -126,8 +128,7 @@ accepted-is w ps xs pos (offered f r) = whole-is w ps xs pos f r
 pub equal-words-exactly-when-equal-links : Equal-words-exactly-when-equal-links
 equal-words-exactly-when-equal-links w ps qs xs ys pos a b =
     let p = accepted-is w ps xs pos a in
-    let q = accepted-is w qs ys pos b in
-    (
+    let q = accepted-is w qs ys pos b in (
       λ e.
           let s : xs ≡ ys = whole-once w ps pos xs ys (run-whole w ps xs pos p) (subst (λ t. ReadWhole w t ys) (sym e) (run-whole w qs ys pos q)) in
           subst (SameLinks xs) s (λ l. (λ i. i, λ i. i)),

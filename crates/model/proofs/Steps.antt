@@ -1,12 +1,12 @@
 -- Links and the steps to them determine one another, and two ascending lists of the same links are one list.
-use mathlib.Core.Path.{_≡_, refl, sym, ap, ap₂, _∙_, subst}
+use mathlib.Core.Path.{_≡_, refl, sym, ap₂, _∙_, subst}
 use mathlib.Core.List.{List, [], _∷_}
 use mathlib.Core.Logic.{inl, inr, ⊎-elim}
-use Prim.Native.Nat.{ℕ, _+_, _-_, _^_, _<_, _≤_}
+use Prim.Native.Nat.{_+_, _-_, _<_, _≤_}
 use native.Mathlib.Omega.{arith}
 use Rattle.std.proofs.shelf.Tests.{cases-lt, cases-eq, eq-eqb, ne-eqb}
 use Rattle.model.specs.declared.link.Link.{Link}
-use Rattle.model.specs.Links.{IsLink, Before, In, SameLinks, Each, AscendingFrom, Ascending, LinkSet}
+use Rattle.model.specs.Links.{IsLink, Before, In, SameLinks, AscendingFrom, Ascending, LinkSet}
 use Rattle.model.specs.Runs.{Step, start, stepTo, linkAt}
 
 pub link-same : (x y : Link) → x .low ≡ y .low → x .high ≡ y .high → x ≡ y
