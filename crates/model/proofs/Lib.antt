@@ -1,7 +1,12 @@
 pub mod CellLists
 pub mod Clause
 pub mod Codes
+pub mod LinkReads
 pub mod Numbers
 pub mod OneAnswer
+pub mod Openings
+pub mod Packing
 pub mod Queues
+pub mod RunSets
 pub mod Stacks
+pub mod Steps

@@ -2,22 +2,17 @@
 use mathlib.Core.Path.{_≡_}
 use mathlib.Core.Logic.{_⊎_, _↔_}
 use mathlib.Core.List.{List}
-use Prim.Native.Nat.{ℕ, _^_, _<_}
+use Prim.Native.Nat.{ℕ, _<_}
 use Rattle.std.specs.declared.result.Result.{Result}
 use Rattle.std.specs.declared.result.Result.the-variants.{Ok}
 use Rattle.model.specs.declared.link.Link.{Link}
-use Rattle.model.specs.Cells.{Place, Cell, word, fault, wordPlaces}
+use Rattle.model.specs.Cells.{Place, Fits, Cell, wordPlaces}
 use Rattle.model.specs.Degrees.{DegreeAnswered, degree}
 use Rattle.model.specs.Links.{Each, LinkSet}
 use Rattle.model.specs.Reading.{ReadWhole, ReadStopped}
 use Rattle.model.specs.Runs.{RunStop, runOf}
 
--- a place of a store of words of w bits
-abbrev pub Fits : ℕ → Place → Type 0
-Fits w (word n) = n < 2 ^ w
-Fits w (fault k) = Unit {0}
-
--- Whatever a store holds, fault places included, at the word width w:
+-- Whatever a store of words of w bits holds, fault places included:
 pub record Accepted-exactly-as-one-link-sets-run (w : ℕ) (ps : List Place) : Type 0 where
   -- it is read to the end with the links xs exactly when these are a link set, ascending, and the store's places are its run;
   pub exactly : (xs : List Link) → ReadWhole w ps xs ↔ (LinkSet xs × (ps ≡ wordPlaces (runOf w xs)))

@@ -1,7 +1,7 @@
 -- Places of stores, and cells: what a coder holds, bit for bit.
 use mathlib.Core.Bool.{Bool, true}
 use mathlib.Core.List.{List, [], _∷_, _++_, map}
-use Prim.Native.Nat.{ℕ}
+use Prim.Native.Nat.{ℕ, _^_, _<_}
 use lib.ListN.{replicate}
 use Rattle.model.specs.Bits.{lowBits, zeros}
 
@@ -9,6 +9,11 @@ use Rattle.model.specs.Bits.{lowBits, zeros}
 pub data Place : Type 0 where
   word : ℕ → Place
   fault : ℕ → Place
+
+-- a place of a store of words of w bits: a word is below 2 ^ w
+abbrev pub Fits : ℕ → Place → Type 0
+Fits w (word n) = n < 2 ^ w
+Fits w (fault k) = Unit {0}
 
 -- places that are all words
 abbrev pub wordPlaces : List ℕ → List Place

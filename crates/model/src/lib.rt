@@ -5,4 +5,5 @@ pub mod golomb;
 pub mod histories;
 pub mod link;
 pub mod refusal;
+pub mod runs;
 pub mod settled;
