@@ -36,23 +36,29 @@ StackRead ps (Ok (Some n)) ps′ = ps ≡ ps′ ++ (word n ∷ [])
 StackRead ps (Ok None) ps′ = (ps ≡ []) × (ps′ ≡ [])
 StackRead ps (Err e) ps′ = (k : ℕ) × (front : List Place) × (ps ≡ front ++ (fault k ∷ [])) × (e ≡ BadRecord k) × (ps′ ≡ ps)
 
--- a call of a store, with its answer; a word goes by its value
-pub data StoreCall : Type 0 where
-  write : ℕ → Answer (Unit {0}) → StoreCall
-  read : Answer (Option ℕ) → StoreCall
+-- a call of a store of words of the type W, with its answer
+pub data StoreCall (W : Type 0) : Type 0 where
+  write : W → Answer (Unit {0}) → StoreCall W
+  read : Answer (Option W) → StoreCall W
 
--- what a call makes of the places of a stack
-abbrev pub Moved : ℕ → List Place → StoreCall → List Place → Type 0
-Moved capacity ps (write n r) ps′ = StackWritten capacity ps n r ps′
-Moved capacity ps (read r) ps′ = StackRead ps r ps′
+-- an answer with a word, by the word's value
+abbrev pub valued : {W : Type 0} → (W → ℕ) → Answer (Option W) → Answer (Option ℕ)
+valued value (Ok None) = Ok None
+valued value (Ok (Some x)) = Ok (Some (value x))
+valued value (Err e) = Err e
 
--- What a call makes of a stack: no call changes the capacity.
-pub record Moves (capacity : ℕ) (ps : List Place) (call : StoreCall) (capacity′ : ℕ) (ps′ : List Place) : Type 0 where
-  pub same : capacity′ ≡ capacity
-  pub moved : Moved capacity ps call ps′
+-- What a call makes of the places of a stack, and that it leaves the capacity as it is.
+module _ {W : Type 0} (value : W → ℕ) where
+  abbrev pub Moved : ℕ → List Place → StoreCall W → List Place → Type 0
+  Moved capacity ps (write x r) ps′ = StackWritten capacity ps (value x) r ps′
+  Moved capacity ps (read r) ps′ = StackRead ps (valued value r) ps′
+
+  pub record Moves (capacity : ℕ) (ps : List Place) (call : StoreCall W) (capacity′ : ℕ) (ps′ : List Place) : Type 0 where
+    pub same : capacity′ ≡ capacity
+    pub moved : Moved capacity ps call ps′
 
 -- These calls of a store and no others were made, in order, and led from s to s′. What one call makes of the whole store, slots past its
 -- places included, is each store's own relation `step`.
-abbrev pub Made : {S : Type 0} → (S → StoreCall → S → Type 0) → S → List StoreCall → S → Type 0
+abbrev pub Made : {S W : Type 0} → (S → StoreCall W → S → Type 0) → S → List (StoreCall W) → S → Type 0
 Made step s [] s′ = s′ ≡ s
 Made {S} step s (c ∷ cs) s′ = (t : S) × step s c t × Made step t cs s′

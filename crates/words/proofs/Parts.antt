@@ -5,14 +5,14 @@ use mathlib.Core.Path.{_≡_, refl, sym, ap, subst, _∙_}
 use mathlib.Core.Bool.{Bool, true, false, cond}
 use mathlib.Core.Logic.{_⊎_, inl, inr}
 use mathlib.Core.List.{List, [], _∷_, _++_, append-assoc}
-use native.Mathlib.Nat.{pow-suc}
+use native.Mathlib.Nat.{mod-eq-of-lt, pow-suc}
 use native.Mathlib.Omega.{arith}
 use borrow.Author.Tests.{eq-eqb, ne-eqb, eqb-true, true-eqb, false-eqb}
 use lib.Bits.{bitAnd, bitOr, bitXor}
 use lib.Count.{leadingZeros, leading-top}
 use lib.Dec.{eqb}
 use lib.ListN.{length, replicate}
-use lib.Pow.{pow-pos, pow-lt, shl-exact}
+use lib.Pow.{pow-pos, pow-lt, pow-mono, shl-exact}
 use Rattle.std.proofs.shelf.Tests.{cases-lt}
 use Rattle.std.proofs.shelf.Bits.{pow-below, one-shl}
 use Rattle.model.specs.Bits.{lowBits, zeros}
@@ -220,7 +220,20 @@ padded-held w m x b =
     let e : w ≡ k + (w - k) = omega (arith, size-le w m) in
     ap (λ n. lowBits n x) e ∙ more-low k (w - k) x b ∙ ap (λ n. bitsAt w m x ++ zeros (w - n)) (sym (held-length w m x))
 
+-- the word of a partial word is a word
+small-at : (w x k : ℕ) → k ≤ w → x < 2 ^ k → x ≡ x % 2 ^ w
+small-at w x k le h = let lt : x < 2 ^ w = omega (arith, pow-mono le) in sym (mod-eq-of-lt lt)
+
+pub small-word : (w m x : ℕ) → Below w m x → x ≡ x % 2 ^ w
+small-word w m x b = small-at w x (sizeAt w m) (size-le w m) b
+
 -- The seal.
+
+pub seal-small : (w m x t : ℕ) → Below w m x → sizeAt w m < w → t ≡ 2 ^ sizeAt w m → bitOr x t ≡ bitOr x t % 2 ^ w
+seal-small w m x t b lt te =
+    let k = sizeAt w m in
+    let word : bitOr x t ≡ 2 ^ k + x = ap (λ y. bitOr x y) te ∙ or-one k x b in
+    small-at w (bitOr x t) (suc k) lt (rw word (omega (arith, pow-suc 2 k)))
 
 pub seal-held : (w m x t : ℕ) → Below w m x → sizeAt w m < w → t ≡ 2 ^ sizeAt w m → lowBits w (bitOr x t) ≡ sealedBy (bitsAt w m x) (w - 1 - length (bitsAt w m x))
 seal-held w m x t b lt te =

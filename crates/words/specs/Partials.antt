@@ -49,15 +49,19 @@ PartRead bs None bs′ = (bs ≡ []) × (bs′ ≡ [])
 
 -- ---- words of w bits, by their bits
 
--- A word with the bits bs alone, if they are w.
-abbrev pub Whole : {W : Type 0} → ℕ → (W → ℕ) → List Bool → Option W → Type 0
-Whole w value bs (Some x) = lowBits w (value x) ≡ bs
-Whole w value bs None = length bs < w
+-- The word that a program has with these w bits: its number is what they stand for.
+abbrev pub IsWord : {W : Type 0} → ℕ → (W → ℕ) → (W → ℕ) → List Bool → W → Type 0
+IsWord w number value bs x = (lowBits w (value x) ≡ bs) × (number x ≡ value x)
 
--- A word with the bits bs, a one bit and zeros to the edge, if there is room for the one bit.
-abbrev pub SealedWord : {W : Type 0} → ℕ → (W → ℕ) → List Bool → Option W → Type 0
-SealedWord w value bs (Some x) = (length bs < w) × (lowBits w (value x) ≡ sealedBy bs (w - 1 - length bs))
-SealedWord w value bs None = length bs ≡ w
+-- The word of the bits bs, if they are w.
+abbrev pub Whole : {W : Type 0} → ℕ → (W → ℕ) → (W → ℕ) → List Bool → Option W → Type 0
+Whole w number value bs (Some x) = IsWord w number value bs x
+Whole w number value bs None = length bs < w
+
+-- The word of the bits bs, a one bit and zeros to the edge, if there is room for the one bit.
+abbrev pub SealedWord : {W : Type 0} → ℕ → (W → ℕ) → (W → ℕ) → List Bool → Option W → Type 0
+SealedWord w number value bs (Some x) = (length bs < w) × IsWord w number value (sealedBy bs (w - 1 - length bs)) x
+SealedWord w number value bs None = length bs ≡ w
 
 -- The bits below the highest one bit of a word, or none where all are zero.
 abbrev pub UnsealedWord : {P : Type 0} → ℕ → (P → List Bool) → ℕ → Option P → Type 0

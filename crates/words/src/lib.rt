@@ -7,7 +7,7 @@ ghost use mathlib.Core.Bool.{Bool};
 ghost use lib.Dec.{eqb};
 ghost use lib.ListN.{length};
 ghost use Rattle.model.specs.Bits.{lowBits, zeros};
-ghost use Rattle.words.specs.Partials.{Masked, NumberWord, PartRead, PartWritten, SealedWord, UnsealedWord, Whole};
+ghost use Rattle.words.specs.Partials.{IsWord, Masked, NumberWord, PartRead, PartWritten, SealedWord, UnsealedWord, Whole};
 
 pub mod fault;
 mod part32;
@@ -112,15 +112,15 @@ pub trait Word: Copy {
 
     // The word of the bits held, if they fill it.
     fn closed(part: Self::Partial) -> Option<Self>
-        ensures { λ r. ⌜ Whole (Partial·PartialWord .width) value (Partial·PartialWord .held part) r ⌝ };
+        ensures { λ r. ⌜ Whole (Partial·PartialWord .width) number value (Partial·PartialWord .held part) r ⌝ };
 
     // The bits held, and zeros to the edge.
     fn padded(part: Self::Partial) -> Self
-        ensures { λ r. ⌜ lowBits (Partial·PartialWord .width) (value r) ≡ Partial·PartialWord .held part ++ zeros (Partial·PartialWord .width - length (Partial·PartialWord .held part)) ⌝ };
+        ensures { λ r. ⌜ IsWord (Partial·PartialWord .width) number value (Partial·PartialWord .held part ++ zeros (Partial·PartialWord .width - length (Partial·PartialWord .held part))) r ⌝ };
 
     // The bits held, a one bit, and zeros to the edge; none where there is no room for the one bit.
     fn sealed(part: Self::Partial) -> Option<Self>
-        ensures { λ r. ⌜ SealedWord (Partial·PartialWord .width) value (Partial·PartialWord .held part) r ⌝ };
+        ensures { λ r. ⌜ SealedWord (Partial·PartialWord .width) number value (Partial·PartialWord .held part) r ⌝ };
 
     // The bits below the highest one bit, or none where all are zero.
     fn unsealed(self) -> Option<Self::Partial>
@@ -129,5 +129,6 @@ pub trait Word: Copy {
     // The lowest bit, and the word of the bits above it.
     fn halved(self) -> (bool, Self)
         ensures lowest { λ r. ⌜ r .0 ≡ eqb (value self % 2) 1 ⌝ }
-        ensures above { λ r. ⌜ value (r .1) ≡ value self / 2 ⌝ };
+        ensures above { λ r. ⌜ value (r .1) ≡ value self / 2 ⌝ }
+        ensures exact { λ r. ⌜ number (r .1) ≡ value (r .1) ⌝ };
 }

@@ -2,7 +2,7 @@ use mathlib.Core.Path.{_∙_}
 use lib.Bits.{bitOr}
 use Rattle.words.proofs.LowBits.{low-mod}
 use native.Mathlib.Omega.{arith}
-use Rattle.words.proofs.Parts.{seal-held, room, is-full, not-full}
+use Rattle.words.proofs.Parts.{seal-held, seal-small, room, is-full, not-full}
 use Rattle.words.proofs.word8.U8Word.sealed.Needs as need
 
 pub returns-then-part-eq128 : need.returns-then-part-eq128
@@ -13,5 +13,10 @@ pub returns : need.returns
 returns c =
     let p = c .args .part in
     let less = not-full 8 (p .mask) (p .word) (omega arith) (p .single) (c .if-part-eq128 .left) in
-    let lt = room 8 (p .mask) (p .word) less in
-    (less, low-mod 8 (bitOr (p .word) (c .next .result)) ∙ seal-held 8 (p .mask) (p .word) (c .next .result) (p .below) lt (c .next .ensures lt))
+    let lt = room 8 (p .mask) (p .word) less in (
+      less,
+      (
+        low-mod 8 (bitOr (p .word) (c .next .result)) ∙ seal-held 8 (p .mask) (p .word) (c .next .result) (p .below) lt (c .next .ensures lt),
+        seal-small 8 (p .mask) (p .word) (c .next .result) (p .below) lt (c .next .ensures lt),
+      ),
+    )

@@ -1,0 +1,11 @@
+use mathlib.Core.Path.{sym}
+use native.Mathlib.Omega.{arith}
+use Rattle.backends.specs.Cursors.{wordAt}
+use Rattle.backends.proofs.Fronts.{how-many-left}
+use Rattle.backends.proofs.cursor.CursorQueueBound.remaining.Needs as need
+
+pub returns : need.returns
+returns g c =
+    let s = c .args .self .now in
+    let n = how-many-left (wordAt (g .W·Word .value)) (s .buf .now) (s .pos) (c .place .result) (c .place .ensures) in
+    omega arith

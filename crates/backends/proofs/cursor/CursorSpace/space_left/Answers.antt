@@ -1,0 +1,10 @@
+use native.Mathlib.Omega.{arith}
+use Rattle.backends.specs.Cursors.{wordAt}
+use Rattle.backends.proofs.Fronts.{how-many}
+use Rattle.backends.proofs.cursor.CursorSpace.space_left.Needs as need
+
+pub returns : need.returns
+returns g c =
+    let s = c .args .self .now in
+    let n = how-many (wordAt (g .W·Word .value)) (s .buf .now) (s .pos) (c .place .result) (c .place .ensures) in
+    omega arith

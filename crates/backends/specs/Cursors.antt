@@ -1,0 +1,66 @@
+-- The cursor: a lent slice of words and a position.
+use mathlib.Core.Path.{_≡_}
+use mathlib.Core.List.{List, []}
+use Prim.Native.Nat.{ℕ, _+_, _-_, _^_, _<_, _≤_}
+use denote.Ref.{name, now}
+use lib.ListN.{length, set}
+use Rattle.std.specs.declared.option.Option.{Option}
+use Rattle.std.specs.declared.option.Option.the-variants.{Some, None}
+use Rattle.std.specs.declared.result.Result.{Result}
+use Rattle.std.specs.declared.result.Result.the-variants.{Ok, Err}
+use Rattle.model.specs.Cells.{Place, word}
+use Rattle.model.specs.Refusals.{Answer}
+use Rattle.backends.specs.declared.cursor.Cursor.{Cursor}
+use Rattle.backends.specs.declared.fault.SeekError.{SeekError}
+use Rattle.backends.specs.Slices.{before, front, rest, spread}
+
+-- what an element stands for
+abbrev pub wordAt : {W : Type 0} → (W → ℕ) → W → Place
+wordAt value x = word (value x)
+
+-- As a stack it holds the words before the position, oldest first; as a source those from it on, next first.
+abbrev pub stacked : {W : Type 0} → (W → ℕ) → Cursor W → List Place
+stacked value c = front (wordAt value) (now (c .buf)) (c .pos)
+
+abbrev pub queued : {W : Type 0} → (W → ℕ) → Cursor W → List Place
+queued value c = rest (wordAt value) (now (c .buf)) (c .pos)
+
+-- its capacity is the slice's length
+abbrev pub roomOf : {W : Type 0} → Cursor W → ℕ
+roomOf c = spread (now (c .buf))
+
+-- the position, as it counts
+abbrev pub at : {W : Type 0} → Cursor W → ℕ
+at c = before (now (c .buf)) (c .pos)
+
+-- The whole of a cursor: the same slice is lent, with these elements, at this position.
+pub record Holds {W : Type 0} (s t : Cursor W) (elements : List W) (pos : ℕ) : Type 0 where
+  pub lent : name (t .buf) ≡ name (s .buf)
+  pub slots : now (t .buf) ≡ elements
+  pub stands : t .pos ≡ pos
+
+-- A write puts the word into the slot at the position and moves on; a refused one changes nothing.
+abbrev pub CursorWrote : {W : Type 0} → Cursor W → W → Answer (Unit {0}) → Cursor W → Type 0
+CursorWrote s x (Ok _) t = Holds s t (set (now (s .buf)) (at s) x) (at s + 1)
+CursorWrote s x (Err e) t = t ≡ s
+
+-- A read of the newest word moves the position back, and changes no slot; none changes nothing.
+abbrev pub CursorPopped : {W : Type 0} → Cursor W → Answer (Option W) → Cursor W → Type 0
+CursorPopped s (Ok (Some x)) t = Holds s t (now (s .buf)) (at s - 1)
+CursorPopped s (Ok None) t = t ≡ s
+CursorPopped s (Err e) t = t ≡ s
+
+-- A read of the next word moves the position on.
+abbrev pub CursorTook : {W : Type 0} → Cursor W → Answer (Option W) → Cursor W → Type 0
+CursorTook s (Ok (Some x)) t = Holds s t (now (s .buf)) (at s + 1)
+CursorTook s (Ok None) t = t ≡ s
+CursorTook s (Err e) t = t ≡ s
+
+-- a position in a slice of so many elements is one of a store
+abbrev pub Placed : ℕ → ℕ → Type 0
+Placed size pos = (pos ≤ size) × (size ≤ 2 ^ 56)
+
+-- what the check before an opening answers
+abbrev pub Checked : ℕ → ℕ → Result (Unit {0}) SeekError → Type 0
+Checked size pos (Ok _) = Placed size pos
+Checked size pos (Err e) = Placed size pos → ⊥

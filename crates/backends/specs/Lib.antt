@@ -1,0 +1,4 @@
+pub mod Answers
+pub mod Cursors
+pub mod Slices
+pub mod Sources

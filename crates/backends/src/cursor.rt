@@ -1,0 +1,140 @@
+// A lent slice of words with a position, as a stack, as a source and as a sink.
+ghost use denote.Ref.{name, now};
+ghost use Prim.Native.Nat.{ℕ};
+ghost use mathlib.Core.Path.{_≡_};
+ghost use mathlib.Core.List.{[], reverse};
+ghost use lib.ListN.{drop, length, take};
+ghost use Rattle.backends.specs.Cursors.{Checked, CursorPopped, CursorTook, CursorWrote, Placed, at, queued, roomOf, stacked};
+use super::fault::ReadFault;
+use super::fault::SeekError;
+use super::traits::BoundedReadWords;
+use super::traits::BoundedWriteWords;
+use super::traits::Queue;
+use super::traits::QueueSemantics;
+use super::traits::ReadWords;
+use super::traits::Stack;
+use super::traits::StackSemantics;
+use super::traits::WordSink;
+use super::traits::WordSource;
+use super::traits::WordStack;
+use super::traits::WriteWords;
+use words::Word;
+use words::fault::BoundedWriteError;
+
+// As many places as a store can have: 2^56.
+pub const MOST_PLACES: usize = 0x100_0000_0000_0000;
+
+// As a stack it holds the words before the position, and its capacity is the slice's length; as a source it holds the words from the
+// position on.
+#[derive(Drop)]
+pub struct Cursor<'a, W> {
+    buf: &'a mut [W],
+    pos: usize,
+}
+
+// Whether a cursor can stand at a position of a slice of so many words.
+pub fn check_pos(len: usize, pos: usize) -> Result<(), SeekError>
+    ensures { λ r. ⌜ Checked len pos r ⌝ }
+{
+    if pos > len || len > MOST_PLACES {
+        return Err(SeekError::PastEnd);
+    }
+    Ok(())
+}
+
+impl<'a, W: Word> Cursor<'a, W> {
+    // At a position; over an empty slice where `check_pos` refuses.
+    pub fn new_at_pos(buf: &'a mut [W], pos: usize) -> Cursor<'a, W>
+        ensures opened { λ r. ⌜ (Placed (length (now (buf .entry))) pos → (name (r .buf) ≡ name (buf .entry)) × (now (r .buf) ≡ now (buf .entry)) × (r .pos ≡ pos)) ⌝ }
+        ensures empty { λ r. ⌜ ((Placed (length (now (buf .entry))) pos → ⊥) → (now (r .buf) ≡ []) × (r .pos ≡ 0)) ⌝ }
+    {
+        if check_pos(buf.len(), pos).is_err() {
+            return Cursor {
+                buf: &mut buf[0..0],
+                pos: 0,
+            };
+        }
+        Cursor { buf, pos }
+    }
+
+    // The position, as it counts.
+    fn place(&self) -> usize
+        ensures { λ r. ⌜ r ≡ at (now (self .entry)) ⌝ }
+    {
+        self.pos.min(MOST_PLACES.min(self.buf.len()))
+    }
+}
+
+pub impl<'a, W: Word> WriteWords<W> for Cursor<'a, W> as CursorWrite {
+    ghost places = { stacked (W·Word .value) };
+
+    ghost capacity = { roomOf };
+
+    ghost writes = { CursorWrote };
+
+    fn write(&mut self, word: W) -> Result<(), BoundedWriteError> {
+        let at = self.place();
+        if at >= self.buf.len() || at >= MOST_PLACES {
+            return Err(BoundedWriteError::OutOfSpace);
+        }
+        self.buf[at] = word;
+        self.pos = at + 1;
+        Ok(())
+    }
+}
+
+pub impl<'a, W: Word> ReadWords<W, Stack> for Cursor<'a, W> as CursorStack {
+    ghost coming = { λ c. reverse (stacked (W·Word .value) c) };
+
+    ghost reads = { CursorPopped };
+
+    fn read(&mut self) -> Result<Option<W>, ReadFault> {
+        let at = self.place();
+        if at == 0 {
+            return Ok(None);
+        }
+        self.pos = at - 1;
+        Ok(Some(self.buf[at - 1]))
+    }
+}
+
+pub impl<'a, W: Word> ReadWords<W, Queue> for Cursor<'a, W> as CursorQueue {
+    ghost coming = { queued (W·Word .value) };
+
+    ghost reads = { CursorTook };
+
+    fn read(&mut self) -> Result<Option<W>, ReadFault> {
+        let at = self.place();
+        if at >= self.buf.len() || at >= MOST_PLACES {
+            return Ok(None);
+        }
+        self.pos = at + 1;
+        Ok(Some(self.buf[at]))
+    }
+}
+
+pub impl<'a, W: Word> BoundedReadWords<W, Stack> for Cursor<'a, W> as CursorStackBound {
+    fn remaining(&self) -> usize {
+        self.place()
+    }
+}
+
+pub impl<'a, W: Word> BoundedReadWords<W, Queue> for Cursor<'a, W> as CursorQueueBound {
+    fn remaining(&self) -> usize {
+        MOST_PLACES.min(self.buf.len()) - self.place()
+    }
+}
+
+pub impl<'a, W: Word> BoundedWriteWords<W> for Cursor<'a, W> as CursorSpace {
+    fn space_left(&self) -> usize {
+        MOST_PLACES.min(self.buf.len()) - self.place()
+    }
+}
+
+pub impl<'a, W: Word> WordSource<W, Stack> for Cursor<'a, W> as CursorStackSource {}
+
+pub impl<'a, W: Word> WordSource<W, Queue> for Cursor<'a, W> as CursorQueueSource {}
+
+pub impl<'a, W: Word> WordSink<W> for Cursor<'a, W> as CursorSink {}
+
+pub impl<'a, W: Word> WordStack<W> for Cursor<'a, W> as CursorWordStack {}
