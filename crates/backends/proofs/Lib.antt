@@ -1,2 +1,3 @@
+pub mod Extending
 pub mod Fronts
 pub mod StoreLaws

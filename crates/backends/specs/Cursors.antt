@@ -64,3 +64,13 @@ Placed size pos = (pos ≤ size) × (size ≤ 2 ^ 56)
 abbrev pub Checked : ℕ → ℕ → Result (Unit {0}) SeekError → Type 0
 Checked size pos (Ok _) = Placed size pos
 Checked size pos (Err e) = Placed size pos → ⊥
+
+-- An opened cursor: the lent slice of this name and these elements, at the position; or an empty one at 0, where no cursor can stand there.
+pub record OpenedAt {W : Type 0} (lender : ℕ) (elements : List W) (pos : ℕ) (c : Cursor W) : Type 0 where
+  pub opened : Placed (length elements) pos → (name (c .buf) ≡ lender) × (now (c .buf) ≡ elements) × (c .pos ≡ pos)
+  pub empty : (Placed (length elements) pos → ⊥) → (now (c .buf) ≡ []) × (c .pos ≡ 0)
+
+-- The position moves, and nothing else changes; refused past the end of the slice, and nothing changes.
+abbrev pub Sought : {W : Type 0} → Cursor W → ℕ → Result (Unit {0}) SeekError → Cursor W → Type 0
+Sought s pos (Ok _) t = (pos ≤ roomOf s) × Holds s t (now (s .buf)) pos
+Sought s pos (Err e) t = (roomOf s < pos) × (t ≡ s)

@@ -4,7 +4,9 @@ ghost use Prim.Native.Nat.{ℕ};
 ghost use mathlib.Core.Path.{_≡_};
 ghost use mathlib.Core.List.{[], reverse};
 ghost use lib.ListN.{drop, length, take};
-ghost use Rattle.backends.specs.Cursors.{Checked, CursorPopped, CursorTook, CursorWrote, Placed, at, queued, roomOf, stacked};
+ghost use Rattle.backends.specs.Cursors.{Checked, CursorPopped, CursorTook, CursorWrote, OpenedAt, at, queued, roomOf, stacked};
+mod calls;
+
 use super::fault::ReadFault;
 use super::fault::SeekError;
 use super::traits::BoundedReadWords;
@@ -45,8 +47,7 @@ pub fn check_pos(len: usize, pos: usize) -> Result<(), SeekError>
 impl<'a, W: Word> Cursor<'a, W> {
     // At a position; over an empty slice where `check_pos` refuses.
     pub fn new_at_pos(buf: &'a mut [W], pos: usize) -> Cursor<'a, W>
-        ensures opened { λ r. ⌜ (Placed (length (now (buf .entry))) pos → (name (r .buf) ≡ name (buf .entry)) × (now (r .buf) ≡ now (buf .entry)) × (r .pos ≡ pos)) ⌝ }
-        ensures empty { λ r. ⌜ ((Placed (length (now (buf .entry))) pos → ⊥) → (now (r .buf) ≡ []) × (r .pos ≡ 0)) ⌝ }
+        ensures { λ r. ⌜ OpenedAt (name (buf .entry)) (now (buf .entry)) pos r ⌝ }
     {
         if check_pos(buf.len(), pos).is_err() {
             return Cursor {

@@ -9,8 +9,11 @@ ghost use Rattle.model.specs.Cells.{Place};
 ghost use Rattle.model.specs.Refusals.{Answer};
 ghost use Rattle.model.specs.Stores.{SourceRead, StackWritten, valued};
 ghost use Rattle.backends.specs.Answers.{toldRead, toldWrite};
-ghost use Rattle.backends.specs.Sources.{AllFit};
+ghost use Rattle.std.specs.declared.result.Result.{Result};
+ghost use Rattle.backends.specs.Sources.{AllFit, SoughtTo};
+ghost use Rattle.backends.specs.declared.fault.SeekError.{SeekError as PositionError};
 use super::fault::ReadFault;
+use super::fault::SeekError;
 use words::PartialWord;
 use words::Word;
 use words::fault::BoundedWriteError;
@@ -89,4 +92,26 @@ pub trait WordStack<W: Word>: WordSource<W, Stack> + WordSink<W> {
     law newest: { (s : Self) → Self·ReadWords .coming s ≡ reverse (Self·WriteWords .places s) };
 
     law kept: { (s t : Self) (r : Answer (Option W)) → Self·ReadWords .reads s r t → Self·WriteWords .capacity t ≡ Self·WriteWords .capacity s };
+}
+
+// A store with a position.
+pub trait Pos {
+    // the position, and the last one that there is
+    ghost stands: { Self → ℕ };
+
+    ghost ends: { Self → ℕ };
+
+    fn pos(&self) -> usize
+        ensures { λ r. ⌜ r ≡ stands (now (self .entry)) ⌝ };
+}
+
+// A store whose position can be moved.
+pub trait Seek: Pos {
+    // what a move to a position, by its answer, makes of the whole store
+    ghost seeks: { Self → ℕ → Result (Unit {0}) PositionError → Self → Type 0 };
+
+    // Moves to a position; refused without effect past the last one.
+    fn seek(&mut self, pos: usize) -> Result<(), SeekError>
+        ensures means { λ r. ⌜ SoughtTo (Self·Pos .ends (now (self .entry))) (Self·Pos .stands (now (self .entry))) pos r (Self·Pos .stands (now (self .exit))) ⌝ }
+        ensures does { λ r. ⌜ seeks (now (self .entry)) pos r (now (self .exit)) ⌝ };
 }

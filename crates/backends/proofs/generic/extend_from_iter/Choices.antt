@@ -1,0 +1,7 @@
+use Rattle.backends.specs.Cursors.{wordAt}
+use Rattle.backends.proofs.Extending.{Written}
+use Rattle.backends.proofs.generic.extend_from_iter.Given as given
+
+abbrev pub Inv-loop-word : given.InvT-loop-word
+Inv-loop-word g l =
+    Written (g .B·WriteWords .writes) (g .B·WriteWords .places) (g .B·WriteWords .capacity) (wordAt (g .W·Word .value)) (l .entry .store) (l .words) (l .word-index) (l .store)

@@ -1,0 +1,21 @@
+-- Several calls of a store, one after the other.
+use mathlib.Core.Path.{_≡_}
+use mathlib.Core.List.{List, [], _∷_, _++_, map}
+use Prim.Native.Nat.{ℕ, _+_, _-_, _<_, _≤_}
+use lib.ListN.{length, take}
+use Rattle.std.specs.declared.result.Result.the-variants.{Ok, Err}
+use Rattle.model.specs.Cells.{Place}
+use Rattle.model.specs.declared.refusal.Refusal.{Refusal}
+use Rattle.model.specs.declared.refusal.Refusal.the-variants.{Full}
+use Rattle.model.specs.Refusals.{Answer}
+
+-- Words written one after the other, up to the first that is refused: just these writes were made, and no more is tried after a refusal.
+pub data WroteAll {S W : Type 0} (writes : S → W → Answer (Unit {0}) → S → Type 0) : S → List W → Answer (Unit {0}) → S → Type 0 where
+  none-left : {s : S} → WroteAll writes s [] (Ok tt) s
+  one-written : {s t u : S} {x : W} {xs : List W} {r : Answer (Unit {0})} → writes s x (Ok tt) t → WroteAll writes t xs r u → WroteAll writes s (x ∷ xs) r u
+  one-refused : {s t : S} {x : W} {xs : List W} {e : Refusal} → writes s x (Err e) t → WroteAll writes s (x ∷ xs) (Err e) t
+
+-- By the places: all words join the end; or, exactly where they find no room, just those that do.
+abbrev pub Extended : ℕ → List Place → List Place → Answer (Unit {0}) → List Place → Type 0
+Extended capacity ps more (Ok _) ps′ = (length ps + length more ≤ capacity) × (ps′ ≡ ps ++ more)
+Extended capacity ps more (Err e) ps′ = (capacity < length ps + length more) × (e ≡ Full) × (ps′ ≡ ps ++ take (capacity - length ps) more)

@@ -1,0 +1,41 @@
+// Calls over any store.
+ghost use denote.Ref.{now};
+ghost use mathlib.Core.Path.{_≡_};
+ghost use mathlib.Core.List.{map};
+ghost use lib.Dec.{eqb};
+ghost use lib.ListN.{length};
+ghost use Rattle.backends.specs.Answers.{toldWrite};
+ghost use Rattle.backends.specs.Chains.{Extended, WroteAll};
+ghost use Rattle.backends.specs.Cursors.{wordAt};
+use super::traits::BoundedReadWords;
+use super::traits::BoundedWriteWords;
+use super::traits::Semantics;
+use super::traits::WordSink;
+use words::Word;
+use words::fault::BoundedWriteError;
+
+// Whether no place is left to read.
+pub fn is_exhausted<W: Word, S: Semantics, B: BoundedReadWords<W, S>>(store: &B) -> bool
+    ensures { λ r. ⌜ r ≡ eqb (length (B·ReadWords .coming (now (store .entry)))) 0 ⌝ }
+{
+    store.remaining() == 0
+}
+
+// Whether there is no room for a word.
+pub fn is_full<W: Word, B: BoundedWriteWords<W> + WordSink<W>>(store: &B) -> bool
+    ensures { λ r. ⌜ r ≡ eqb (length (B·WriteWords .places (now (store .entry)))) (B·WriteWords .capacity (now (store .entry))) ⌝ }
+{
+    store.space_left() == 0
+}
+
+// Writes words one after the other, up to the first that is refused; those before it stay.
+pub fn extend_from_iter<W: Word, B: WordSink<W>>(store: &mut B, words: &[W]) -> Result<(), BoundedWriteError>
+    ensures calls { λ r. ⌜ WroteAll (B·WriteWords .writes) (now (store .entry)) (now (words .entry)) (toldWrite r) (now (store .exit)) ⌝ }
+    ensures places { λ r. ⌜ Extended (B·WriteWords .capacity (now (store .entry))) (B·WriteWords .places (now (store .entry))) (map (wordAt (W·Word .value)) (now (words .entry))) (toldWrite r) (B·WriteWords .places (now (store .exit))) ⌝ }
+    ensures same { λ _. ⌜ B·WriteWords .capacity (now (store .exit)) ≡ B·WriteWords .capacity (now (store .entry)) ⌝ }
+{
+    for word in words {
+        store.write(*word)?;
+    }
+    Ok(())
+}
