@@ -1,3 +1,4 @@
 pub mod Extending
 pub mod Fronts
+pub mod Newest
 pub mod StoreLaws

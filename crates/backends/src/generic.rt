@@ -4,13 +4,18 @@ ghost use mathlib.Core.Path.{_≡_};
 ghost use mathlib.Core.List.{map};
 ghost use lib.Dec.{eqb};
 ghost use lib.ListN.{length};
-ghost use Rattle.backends.specs.Answers.{toldWrite};
-ghost use Rattle.backends.specs.Chains.{Extended, WroteAll};
+ghost use Rattle.model.specs.Stores.{valued};
+ghost use Rattle.backends.specs.Answers.{toldRead, toldWrite};
+ghost use Rattle.backends.specs.Chains.{Extended, Replaced, WroteAll};
 ghost use Rattle.backends.specs.Cursors.{wordAt};
 use super::traits::BoundedReadWords;
 use super::traits::BoundedWriteWords;
 use super::traits::Semantics;
+use super::fault::ReadFault;
+use super::traits::ReadWords;
 use super::traits::WordSink;
+use super::traits::WordStack;
+use super::traits::WriteWords;
 use words::Word;
 use words::fault::BoundedWriteError;
 
@@ -38,4 +43,16 @@ pub fn extend_from_iter<W: Word, B: WordSink<W>>(store: &mut B, words: &[W]) -> 
         store.write(*word)?;
     }
     Ok(())
+}
+
+// Puts a word in the place of the newest, which is answered; the room that the old one leaves is enough.
+pub fn replace_newest<W: Word, B: WordStack<W>>(store: &mut B, word: W) -> Result<Option<W>, ReadFault>
+    ensures places { λ r. ⌜ Replaced (B·WriteWords .places (now (store .entry))) (W·Word .value word) (valued (W·Word .value) (toldRead r)) (B·WriteWords .places (now (store .exit))) ⌝ }
+    ensures same { λ _. ⌜ B·WriteWords .capacity (now (store .exit)) ≡ B·WriteWords .capacity (now (store .entry)) ⌝ }
+{
+    let Some(old) = store.read()? else {
+        return Ok(None);
+    };
+    let _ = store.write(word);
+    Ok(Some(old))
 }
