@@ -19,7 +19,7 @@ use Rattle.model.specs.Bits.{lowBits, zeros}
 use Rattle.words.specs.Partials.{sizeAt, sealedBy, Single, Below}
 use Rattle.words.proofs.LowBits.{size-le, more-low, length-low, low-zero, low-one, low-push, and-zero, and-one, xor-one, or-one, zero-low, seal-low, unseal-low, size-zero, size-pow}
 
-no-bits : (xs : List Bool) → length xs ≡ 0 → xs ≡ []
+pub no-bits : (xs : List Bool) → length xs ≡ 0 → xs ≡ []
 no-bits [] e = refl
 no-bits (x ∷ xs) e = absurd (omega arith)
 

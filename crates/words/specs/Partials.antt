@@ -63,9 +63,13 @@ abbrev pub SealedWord : {W : Type 0} → ℕ → (W → ℕ) → (W → ℕ) →
 SealedWord w number value bs (Some x) = (length bs < w) × IsWord w number value (sealedBy bs (w - 1 - length bs)) x
 SealedWord w number value bs None = length bs ≡ w
 
+-- The bits bs, a one bit and zeros to the edge are those of the number n.
+abbrev pub Unseals : ℕ → ℕ → List Bool → Type 0
+Unseals w n bs = (z : ℕ) × (z < w) × (lowBits w n ≡ sealedBy bs z)
+
 -- The bits below the highest one bit of a word, or none where all are zero.
 abbrev pub UnsealedWord : {P : Type 0} → ℕ → (P → List Bool) → ℕ → Option P → Type 0
-UnsealedWord w held n (Some p) = (z : ℕ) × (z < w) × (lowBits w n ≡ sealedBy (held p) z)
+UnsealedWord w held n (Some p) = Unseals w n (held p)
 UnsealedWord w held n None = lowBits w n ≡ zeros w
 
 -- A number as a word of w bits, if it is one.

@@ -1,7 +1,7 @@
 use mathlib.Core.Path.{_∙_}
 use Rattle.words.proofs.LowBits.{low-mod}
 use Rattle.words.proofs.Parts.{padded-held, small-word}
-use Rattle.words.proofs.word8.U8Word.padded.Needs as need
+use Rattle.words.proofs.word8.cleared.Needs as need
 
 pub returns : need.returns
 returns c =
