@@ -1,18 +1,18 @@
 -- The order of links, and lists that ascend by it.
-use mathlib.Core.Path.{_≡_, refl, sym, ap, subst, _∙_}
+use mathlib.Core.Path.{_≡_, refl, sym, subst}
 use mathlib.Core.Logic.{_⊎_, inl, inr, ⊎-elim}
-use mathlib.Core.List.{List, [], _∷_, _++_}
-use mathlib.Core.Bool.{Bool, true, false, cond, _&&_, _||_}
+use mathlib.Core.List.{List, [], _∷_}
+use mathlib.Core.Bool.{Bool, true, false, _&&_}
 use Prim.Native.Nat.{ℕ, zero, suc, _+_, _<_, _≤_}
 use native.Mathlib.Omega.{arith}
-use lib.Dec.{ltb, eqb}
-use lib.ListN.{length, getD, take, drop}
+use lib.Dec.{eqb}
+use lib.ListN.{length, getD}
 use Rattle.std.proofs.shelf.Ways.{tells}
-use Rattle.std.proofs.shelf.Tests.{and-parts, and-from, cases-bool, cases-lt, both-ways, cond-true, cond-false, or-from, or-cases, or-left, or-right}
+use Rattle.std.proofs.shelf.Tests.{and-parts, and-from, cases-bool, cases-lt, both-ways, or-cases, or-left, or-right}
 use Rattle.model.specs.declared.link.Link.{Link}
 use Rattle.model.specs.Links.{before, isLink, In}
 use Rattle.model.specs.Rows.{isIn}
-use Rattle.links.specs.Order.{beforeAll, ascending, proper, insertLink, noLink, Halved}
+use Rattle.links.specs.Order.{beforeAll, ascending, proper, noLink, Halved}
 
 pub before-trans : (a b c : Link) → before a b ≡ true → before b c ≡ true → before a c ≡ true
 before-trans a b c p q = grind (arith, tells)

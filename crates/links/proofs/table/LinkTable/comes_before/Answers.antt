@@ -1,12 +1,9 @@
 use native.Mathlib.Omega.{arith}
-use mathlib.Core.Path.{_≡_, sym, _∙_, ap}
-use mathlib.Core.Bool.{Bool, true, false}
-use Prim.Native.Nat.{ℕ, _<_}
-use lib.ListN.{length, getD}
+use mathlib.Core.Path.{sym, _∙_, ap}
 use Rattle.std.proofs.shelf.Lists.{getD-take, length-take}
 use Rattle.model.specs.declared.link.Link.{Link}
 use Rattle.model.specs.Links.{before}
-use Rattle.links.specs.Order.{noLink, Halved}
+use Rattle.links.specs.Order.{noLink}
 use Rattle.links.specs.Tables.{linksOf}
 use Rattle.links.proofs.Order.{halved}
 use Rattle.links.proofs.table.LinkTable.comes_before.Needs as need

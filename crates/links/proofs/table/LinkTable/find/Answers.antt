@@ -1,11 +1,10 @@
 use native.Mathlib.Omega.{arith}
-use mathlib.Core.Path.{_≡_, sym, _∙_, ap}
-use Prim.Native.Nat.{ℕ, _<_}
-use lib.ListN.{length, getD}
+use mathlib.Core.Path.{_≡_, sym, _∙_}
+use lib.ListN.{getD}
 use Rattle.std.proofs.shelf.Lists.{getD-take, length-take}
 use Rattle.links.specs.Order.{noLink}
 use Rattle.links.specs.Tables.{linksOf}
-use Rattle.links.proofs.Rows.{found-here, not-found}
+use Rattle.links.proofs.Finding.{found-here, not-found}
 use Rattle.links.proofs.table.LinkTable.find.Needs as need
 
 pub returns-then-eq : need.returns-then-eq
