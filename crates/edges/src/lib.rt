@@ -26,7 +26,13 @@ mod tests {
     #[test]
     fn no_rows() -> Result<(), Fail> {
         let mut table = LinkTable::new();
-        check_eq(table.add_rows(&[]), Ok(RowsAdded { rows: 0, repeats: 0 }))?;
+        check_eq(
+            table.add_rows(&[]),
+            Ok(RowsAdded {
+                rows: 0,
+                repeats: 0,
+            }),
+        )?;
         check_eq(table.len(), 0)?;
         check_eq(table.get(0), None)?;
         check(!table.contains(row(0, 1)))
@@ -39,7 +45,13 @@ mod tests {
         check_eq(table.get(2047), None)?;
         check_eq(table.add(row(2048, 2047)), Ok(Added::New))?;
         check_eq(table.len(), 2048)?;
-        check_eq(table.get(2047), Some(Link { low: 2047, high: 2048 }))?;
+        check_eq(
+            table.get(2047),
+            Some(Link {
+                low: 2047,
+                high: 2048,
+            }),
+        )?;
         check_eq(table.get(2048), None)
     }
 
@@ -71,7 +83,10 @@ mod tests {
     fn equal_ends() -> Result<(), Fail> {
         let mut table = LinkTable::new();
         check_eq(table.add(row(0, 0)), Err(TableFault::SelfLink))?;
-        check_eq(table.add(row(GREATEST, GREATEST)), Err(TableFault::SelfLink))?;
+        check_eq(
+            table.add(row(GREATEST, GREATEST)),
+            Err(TableFault::SelfLink),
+        )?;
         check_eq(table.len(), 0)?;
         check(!table.contains(row(0, 0)))
     }
@@ -81,19 +96,55 @@ mod tests {
         let mut table = LinkTable::new();
         check_eq(table.add(row(GREATEST, GREATEST - 1)), Ok(Added::New))?;
         check_eq(table.add(row(GREATEST, 0)), Ok(Added::New))?;
-        check_eq(table.add_rows(&[0, 0, 0, 0, 255, 255, 255, 255]), Ok(RowsAdded { rows: 1, repeats: 1 }))?;
-        check_eq(table.get(0), Some(Link { low: 0, high: GREATEST }))?;
-        check_eq(table.get(1), Some(Link { low: GREATEST - 1, high: GREATEST }))?;
+        check_eq(
+            table.add_rows(&[0, 0, 0, 0, 255, 255, 255, 255]),
+            Ok(RowsAdded {
+                rows: 1,
+                repeats: 1,
+            }),
+        )?;
+        check_eq(
+            table.get(0),
+            Some(Link {
+                low: 0,
+                high: GREATEST,
+            }),
+        )?;
+        check_eq(
+            table.get(1),
+            Some(Link {
+                low: GREATEST - 1,
+                high: GREATEST,
+            }),
+        )?;
         check_eq(table.len(), 2)
     }
 
     #[test]
     fn ragged() -> Result<(), Fail> {
         let mut table = LinkTable::new();
-        check_eq(table.add_rows(&[5]), Err(RowsFault { row: 0, fault: RowFault::Ragged }))?;
-        check_eq(table.add_rows(&[1, 0, 0, 0, 2, 0, 0]), Err(RowsFault { row: 0, fault: RowFault::Ragged }))?;
+        check_eq(
+            table.add_rows(&[5]),
+            Err(RowsFault {
+                row: 0,
+                fault: RowFault::Ragged,
+            }),
+        )?;
+        check_eq(
+            table.add_rows(&[1, 0, 0, 0, 2, 0, 0]),
+            Err(RowsFault {
+                row: 0,
+                fault: RowFault::Ragged,
+            }),
+        )?;
         check_eq(table.len(), 0)?;
-        check_eq(table.add_rows(&[1, 0, 0, 0, 2, 0, 0, 0, 3]), Err(RowsFault { row: 1, fault: RowFault::Ragged }))?;
+        check_eq(
+            table.add_rows(&[1, 0, 0, 0, 2, 0, 0, 0, 3]),
+            Err(RowsFault {
+                row: 1,
+                fault: RowFault::Ragged,
+            }),
+        )?;
         check_eq(table.len(), 1)?;
         check(table.contains(row(2, 1)))
     }
@@ -101,7 +152,33 @@ mod tests {
     #[test]
     fn first_fault_is_told() -> Result<(), Fail> {
         let mut table = LinkTable::new();
-        let bytes = [1, 0, 0, 0, 2, 0, 0, 0, 7, 0, 0, 0, 7, 0, 0, 0, 3, 0, 0, 0, 4, 0, 0, 0, 9];
+        let bytes = [
+            1,
+            0,
+            0,
+            0,
+            2,
+            0,
+            0,
+            0,
+            7,
+            0,
+            0,
+            0,
+            7,
+            0,
+            0,
+            0,
+            3,
+            0,
+            0,
+            0,
+            4,
+            0,
+            0,
+            0,
+            9,
+        ];
         let stop = RowsFault {
             row: 1,
             fault: RowFault::Table(TableFault::SelfLink),
@@ -115,12 +192,61 @@ mod tests {
     fn order_and_direction() -> Result<(), Fail> {
         let mut table = LinkTable::new();
         let mut other = LinkTable::new();
-        let rows = [1, 2, 3, 4, 5, 6, 7, 8, 9, 9, 9, 9, 0, 0, 0, 0, 5, 6, 7, 8, 1, 2, 3, 4];
+        let rows = [
+            1,
+            2,
+            3,
+            4,
+            5,
+            6,
+            7,
+            8,
+            9,
+            9,
+            9,
+            9,
+            0,
+            0,
+            0,
+            0,
+            5,
+            6,
+            7,
+            8,
+            1,
+            2,
+            3,
+            4,
+        ];
         let turned = [0, 0, 0, 0, 9, 9, 9, 9, 5, 6, 7, 8, 1, 2, 3, 4];
-        check_eq(table.add_rows(&rows), Ok(RowsAdded { rows: 3, repeats: 1 }))?;
-        check_eq(other.add_rows(&turned), Ok(RowsAdded { rows: 2, repeats: 0 }))?;
-        check_eq(table.get(0), Some(Link { low: 0, high: 151587081 }))?;
-        check_eq(table.get(1), Some(Link { low: 67305985, high: 134678021 }))?;
+        check_eq(
+            table.add_rows(&rows),
+            Ok(RowsAdded {
+                rows: 3,
+                repeats: 1,
+            }),
+        )?;
+        check_eq(
+            other.add_rows(&turned),
+            Ok(RowsAdded {
+                rows: 2,
+                repeats: 0,
+            }),
+        )?;
+        check_eq(
+            table.get(0),
+            Some(Link {
+                low: 0,
+                high: 151587081,
+            }),
+        )?;
+        check_eq(
+            table.get(1),
+            Some(Link {
+                low: 67305985,
+                high: 134678021,
+            }),
+        )?;
         check_eq(other.get(0), table.get(0))?;
         check_eq(other.get(1), table.get(1))?;
         check_eq(other.len(), 2)
