@@ -2,8 +2,8 @@
 use mathlib.Core.Path.{_≡_}
 use mathlib.Core.List.{List, [], _∷_}
 use mathlib.Core.Bool.{Bool, true, false, cond, _&&_}
-use Prim.Native.Nat.{ℕ, _+_, _<_, _≤_}
-use lib.ListN.{length, getD}
+use Prim.Native.Nat.{ℕ, _+_, _-_, _<_, _≤_}
+use lib.ListN.{length, getD, drop, replicate}
 use Rattle.std.specs.declared.result.Result.{Result}
 use Rattle.std.specs.declared.result.Result.the-variants.{Ok, Err}
 use Rattle.std.specs.shelf.Lists.{inserted}
@@ -34,6 +34,10 @@ insertLink l (x ∷ xs) = cond (before l x) (l ∷ x ∷ xs) (cond (before x l) 
 -- what stands in a slot that holds no link
 abbrev pub noLink : Link
 noLink = record { low = 0; high = 0 }
+
+-- of so many slots in all, those from n on hold no link
+abbrev pub FreeFrom : List Link → ℕ → ℕ → Type 0
+FreeFrom slots n all = drop n slots ≡ replicate (all - n) noLink
 
 -- at is the place of l: the links below it come before l, and those from it on do not
 pub record Place (l : Link) (xs : List Link) (at : ℕ) : Type 0 where

@@ -1,13 +1,13 @@
 // The slots of a table: how one is read, and how a link is put in.
 ghost use mathlib.Core.Path.{_≡_};
 ghost use mathlib.Core.Bool.{true};
-ghost use Prim.Native.Nat.{ℕ, _+_, _-_, _<_, _≤_};
-ghost use lib.ListN.{drop, length, replicate, take};
+ghost use Prim.Native.Nat.{ℕ, _+_, _<_, _≤_};
+ghost use lib.ListN.{drop, length, take};
 ghost use Rattle.std.specs.declared.option.Option.the-variants.{Some};
 ghost use Rattle.std.specs.shelf.Lists.{inserted};
 ghost use Rattle.std.specs.shelf.Maps.{nth};
 ghost use Rattle.model.specs.Rows.{mostLinks};
-ghost use Rattle.links.specs.Order.{ascending, noLink, proper};
+ghost use Rattle.links.specs.Order.{FreeFrom, ascending, proper};
 ghost use Rattle.links.specs.Tables.{linksOf};
 use super::LinkTable;
 use model::link::Link;
@@ -37,7 +37,7 @@ impl LinkTable {
 // Puts `link` at the place `at` of the first `n` slots, and moves those from there on up by one.
 fn put(slots: &mut [Link], n: usize, at: usize, link: Link)
     requires { ⌜ at ≤ n ⌝ ∗ ⌜ n < length (now slots) ⌝ }
-    ensures free { λ _. ⌜ ((m : ℕ) → n < m → drop n (now (slots .entry)) ≡ replicate (m - n) noLink → drop (n + 1) (now (slots .exit)) ≡ replicate (m - (n + 1)) noLink) ⌝ }
+    ensures free { λ _. ⌜ ((all : ℕ) → n < all → FreeFrom (now (slots .entry)) n all → FreeFrom (now (slots .exit)) (n + 1) all) ⌝ }
     ensures rest { λ _. ⌜ drop (n + 1) (now (slots .exit)) ≡ drop (n + 1) (now (slots .entry)) ⌝ }
     ensures front { λ _. ⌜ take (n + 1) (now (slots .exit)) ≡ inserted (take n (now (slots .entry))) at link ⌝ }
 {
