@@ -2,7 +2,7 @@
 use mathlib.Core.Path.{_≡_, refl, sym, ap, subst, _∙_}
 use mathlib.Core.Logic.{_⊎_, inl, inr, ⊎-elim, _↔_}
 use mathlib.Core.List.{List, [], _∷_}
-use mathlib.Core.Bool.{Bool, true, false, _&&_}
+use mathlib.Core.Bool.{true}
 use Prim.Native.Nat.{ℕ, _^_}
 use native.Mathlib.Omega.{arith}
 use lib.Dec.{ltb}
@@ -12,18 +12,17 @@ use Rattle.std.specs.declared.result.Result.the-variants.{Ok, Err}
 use Rattle.std.proofs.shelf.Tests.{and-parts}
 use Rattle.std.proofs.shelf.Ways.{tells}
 use Rattle.model.specs.declared.link.Link.{Link}
-use Rattle.model.specs.declared.link.Row.{Row}
-use Rattle.model.specs.declared.refusal.Refusal.the-variants.{TableFull, SelfLink}
+use Rattle.model.specs.declared.refusal.Refusal.the-variants.{TableFull}
 use Rattle.model.specs.Links.{In, SameLinks, Before, before, IsLink, isLink, Each, Ascending, AscendingFrom, LinkSet}
-use Rattle.model.specs.Rows.{settled, Named, Names, SameRows}
+use Rattle.model.specs.Rows.{settled, Named, Names}
 use Rattle.links.specs.declared.answer.Added.{Added}
 use Rattle.links.specs.declared.answer.TableFault.{TableFault}
 use Rattle.links.specs.declared.answer.TableFault.the-variants.{SelfLink as SelfLinked, TableFull as Filled}
 use Rattle.links.specs.declared.table.LinkTable.{LinkTable}
 use Rattle.links.specs.Answers.{told}
-use Rattle.links.specs.Histories.{RowTaken, RowCall, rowsOf, RowChain, no-row, row-then, Rows-settle-the-links, NoneRefusedFull, Order-is-free}
+use Rattle.links.specs.Histories.{RowCall, rowsOf, RowChain, no-row, row-then, Rows-settle-the-links, NoneRefusedFull, Order-is-free}
 use Rattle.links.specs.Order.{beforeAll, ascending, proper}
-use Rattle.links.specs.Rows.{answerTo, linksAfter, linksAfterRows}
+use Rattle.links.specs.Rows.{answerTo, linksAfterRows}
 use Rattle.links.specs.Tables.{linksOf}
 use Rattle.links.proofs.Laws.{rows-settle, row-adds, same-list}
 use Rattle.links.proofs.Same.{same-table}

@@ -2,15 +2,13 @@
 use mathlib.Core.Path.{_≡_, refl, sym, ap, subst, _∙_}
 use mathlib.Core.Logic.{_⊎_, inl, inr, ⊎-elim}
 use mathlib.Core.List.{List, [], _∷_, _++_}
-use mathlib.Core.Bool.{Bool, true, false, cond, _&&_, _||_}
+use mathlib.Core.Bool.{true, false, cond}
 use Prim.Native.Nat.{ℕ, zero, suc, _+_, _<_, _≤_}
 use native.Mathlib.Omega.{arith}
-use lib.Dec.{ltb, eqb}
 use lib.ListN.{length, getD, take, drop}
-use Rattle.std.proofs.shelf.Tests.{and-parts, and-from, cases-bool, both-ways, cond-true, cond-false}
+use Rattle.std.proofs.shelf.Tests.{and-parts, and-from, cases-bool, cond-true, cond-false}
 use Rattle.model.specs.declared.link.Link.{Link}
 use Rattle.model.specs.Links.{before, isLink, In}
-use Rattle.model.specs.Rows.{isIn}
 use Rattle.links.specs.Order.{beforeAll, ascending, proper, insertLink, noLink}
 use Rattle.links.proofs.Order.{before-irrefl, not-back, neither-same, beforeAll-in, beforeAll-over, beforeAll-not-in, beforeAll-from, proper-in, proper-from}
 

@@ -1,13 +1,12 @@
 -- The laws over whole histories.
 use mathlib.Core.Path.{_≡_, refl, sym, ap, subst, _∙_}
 use mathlib.Core.Logic.{_⊎_, inl, inr, ⊎-elim}
-use mathlib.Core.List.{List, [], _∷_, _++_}
+use mathlib.Core.List.{List, [], _∷_}
 use mathlib.Core.Bool.{Bool, true, false, cond, _&&_, _||_, not}
-use Prim.Native.Nat.{ℕ, zero, suc, _+_, _<_, _≤_}
+use Prim.Native.Nat.{ℕ, suc}
 use native.Mathlib.Omega.{arith}
-use lib.Dec.{ltb, eqb, leb}
+use lib.Dec.{eqb, leb}
 use lib.ListN.{length}
-use Rattle.std.specs.declared.result.Result.{Result}
 use Rattle.std.specs.declared.result.Result.the-variants.{Ok, Err}
 use Rattle.std.proofs.shelf.Ways.{tells}
 use Rattle.std.proofs.shelf.Tests.{and-parts, cases-bool, both-ways, cond-true, cond-false, cond-both, ne-eqb, eq-eqb, or-left, or-from, cases-eq}
@@ -19,9 +18,9 @@ use Rattle.model.specs.declared.refusal.Refusal.the-variants.{SelfLink, TableFu
 use Rattle.model.specs.Refusals.{Answer}
 use Rattle.links.specs.Order.{beforeAll, ascending, insertLink}
 use Rattle.links.specs.Rows.{answerTo, linksAfter, linksAfterRows, fullFor}
-use Rattle.model.specs.Links.{In, SameLinks, before, linkOf}
+use Rattle.model.specs.Links.{In, SameLinks, linkOf}
 use Rattle.model.specs.Rows.{isIn, settle, settleRows, settled, Names}
-use Rattle.links.proofs.Order.{isIn-in, in-isIn, not-isIn, before-asym, before-irrefl, beforeAll-in, beforeAll-not-in}
+use Rattle.links.proofs.Order.{isIn-in, in-isIn, not-isIn, before-asym, beforeAll-in, beforeAll-not-in}
 use Rattle.links.proofs.Insert.{insert-in, in-insert, insert-has, insert-keeps, ascending-insert, length-insert}
 
 pub ascending-after : (xs : List Link) (r : Row) → ascending xs ≡ true → ascending (linksAfter xs r) ≡ true

@@ -1,18 +1,18 @@
 -- The order of links, and lists that ascend by it.
-use mathlib.Core.Path.{_≡_, refl, sym, ap, subst, _∙_}
+use mathlib.Core.Path.{_≡_, refl, sym, subst}
 use mathlib.Core.Logic.{_⊎_, inl, inr, ⊎-elim}
-use mathlib.Core.List.{List, [], _∷_, _++_}
-use mathlib.Core.Bool.{Bool, true, false, cond, _&&_, _||_}
+use mathlib.Core.List.{List, [], _∷_}
+use mathlib.Core.Bool.{Bool, true, false, _&&_}
 use Prim.Native.Nat.{ℕ, zero, suc, _+_, _<_, _≤_}
 use native.Mathlib.Omega.{arith}
-use lib.Dec.{ltb, eqb}
-use lib.ListN.{length, getD, take, drop}
+use lib.Dec.{eqb}
+use lib.ListN.{length, getD}
 use Rattle.std.proofs.shelf.Ways.{tells}
-use Rattle.std.proofs.shelf.Tests.{and-parts, and-from, cases-bool, cases-lt, both-ways, cond-true, cond-false, or-from, or-cases, or-left, or-right}
+use Rattle.std.proofs.shelf.Tests.{and-parts, and-from, cases-bool, cases-lt, both-ways, or-cases, or-left, or-right}
 use Rattle.model.specs.declared.link.Link.{Link}
 use Rattle.model.specs.Links.{before, isLink, In}
 use Rattle.model.specs.Rows.{isIn}
-use Rattle.links.specs.Order.{beforeAll, ascending, proper, insertLink, noLink}
+use Rattle.links.specs.Order.{beforeAll, ascending, proper, noLink, Halved}
 
 pub before-trans : (a b c : Link) → before a b ≡ true → before b c ≡ true → before a c ≡ true
 before-trans a b c p q = grind (arith, tells)
@@ -112,3 +112,7 @@ above-mid xs l mid h p k le lt =
     ⊎-elim (λ q. not-over (getD xs mid noLink) (getD xs k noLink) l (ascending-at xs mid k h q lt) p) (λ q.
     let e : mid ≡ k = omega arith in
     subst (λ (j : ℕ). before (getD xs j noLink) l ≡ false) e p) (cases-lt mid k)
+
+pub halved : (xs : List Link) (l : Link) (mid : ℕ) → ascending xs ≡ true → mid < length xs → (b : Bool) → b ≡ before (getD xs mid noLink) l → Halved l xs mid b
+halved xs l mid h m true p = below-mid xs l mid h m (sym p)
+halved xs l mid h m false p = above-mid xs l mid h (sym p)

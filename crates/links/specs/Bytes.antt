@@ -1,11 +1,10 @@
 -- What rows handed in as bytes come to.
 use mathlib.Core.Path.{_≡_}
 use mathlib.Core.List.{List, [], _∷_, _++_}
-use Prim.Native.Nat.{ℕ, suc, _+_, _%_, _<_}
+use Prim.Native.Nat.{ℕ, _+_, _%_, _<_, _≤_}
 use lib.ListN.{length}
 use Rattle.std.specs.declared.result.Result.{Result}
 use Rattle.std.specs.declared.result.Result.the-variants.{Ok, Err}
-use Rattle.model.specs.declared.link.Row.{Row}
 use Rattle.model.specs.declared.refusal.Refusal.{Refusal}
 use Rattle.model.specs.declared.refusal.Refusal.the-variants.{Ragged}
 use Rattle.model.specs.Bytes.{rowAt, firstRows, wholeRows}
@@ -66,3 +65,17 @@ pub record RowsTaken (t : LinkTable) (bytes : List ℕ) (answer : Result RowsAdd
   pub calls : List RowCall
   pub chain : RowChain t calls t′
   pub handed : HandedIn bytes calls answer
+
+-- The first i rows were handed in and accepted, and so many of them repeated a link.
+pub record Accepted (t : LinkTable) (bytes : List ℕ) (i count : ℕ) (u : LinkTable) : Type 0 where
+  pub calls : List RowCall
+  pub chain : RowChain t calls u
+  pub rows : rowsOf calls ≡ firstRows bytes i
+  pub all : AllAccepted calls
+  pub counted : count ≡ repeats calls
+  pub few : count ≤ i
+
+-- What the row at an index comes to where all before it were accepted: one more is accepted, or this is the first that is refused.
+abbrev pub RowDone : List ℕ → ℕ → LinkTable → Result Added TableFault → LinkTable → Type 0
+RowDone bytes i u (Ok a) v = (t : LinkTable) (count more : ℕ) → Accepted t bytes i count u → more ≡ count + repeatOf (Ok a) → Accepted t bytes (i + 1) more v
+RowDone bytes i u (Err e) v = (t : LinkTable) (count : ℕ) → Accepted t bytes i count u → RowsTaken t bytes (Err (record { row = i; fault = Table e })) v

@@ -9,6 +9,8 @@ use model::link::Link;
 
 mod ops;
 mod rows;
+mod search;
+mod slots;
 
 // As many links as a table keeps.
 pub const MAX_LINKS: usize = 2048;

@@ -3,10 +3,12 @@ ghost use mathlib.Core.Path.{_≡_};
 ghost use Prim.Native.Nat.{_+_, _*_, _≤_};
 ghost use lib.ListN.{length};
 ghost use Rattle.model.specs.Bytes.{numberAt, rowAt};
-ghost use Rattle.links.specs.Bytes.{RowsTaken};
+ghost use Rattle.links.specs.Bytes.{RowDone, RowsTaken};
+use super::super::answer::Added;
 use super::super::answer::RowFault;
 use super::super::answer::RowsAdded;
 use super::super::answer::RowsFault;
+use super::super::answer::TableFault;
 use super::LinkTable;
 use model::link::Row;
 
@@ -21,7 +23,7 @@ impl LinkTable {
         let rows = bytes.len() / ROW_BYTES;
         let mut repeats = 0;
         for i in 0..rows {
-            match self.add(row_at(bytes, i)) {
+            match self.add_row(bytes, i) {
                 Ok(added) => repeats += added.repeats(),
                 Err(fault) => {
                     return Err(RowsFault {
@@ -38,6 +40,14 @@ impl LinkTable {
             });
         }
         Ok(RowsAdded { rows, repeats })
+    }
+
+    // Takes in the row at an index of bytes that have it.
+    fn add_row(&mut self, bytes: &[u8], i: usize) -> Result<Added, TableFault>
+        requires { ⌜ 8 * i + 8 ≤ length (now bytes) ⌝ }
+        ensures { λ r. ⌜ RowDone (now (bytes .entry)) i (now (self .entry)) r (now (self .exit)) ⌝ }
+    {
+        self.add(row_at(bytes, i))
     }
 }
 

@@ -1,4 +1,4 @@
-use Rattle.links.proofs.Handing.{Accepted}
+use Rattle.links.specs.Bytes.{Accepted}
 use Rattle.links.proofs.table.LinkTable.add_rows.Given as given
 
 abbrev pub Inv-loop-i : given.InvT-loop-i

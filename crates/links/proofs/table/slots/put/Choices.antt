@@ -1,7 +1,7 @@
 use mathlib.Core.Path.{_≡_}
 use mathlib.Core.List.{_∷_, _++_}
 use lib.ListN.{take, drop}
-use Rattle.links.proofs.table.ops.put.Given as given
+use Rattle.links.proofs.table.slots.put.Given as given
 
 -- what is carried, put between what is written and what is not yet read, makes the list with the link inserted
 abbrev pub Inv-loop-i : given.InvT-loop-i
