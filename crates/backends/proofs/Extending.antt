@@ -57,9 +57,10 @@ module _ {S W : Type 0} (writes : S → W → Answer (Unit {0}) → S → Type 0
   pub all-written : (i : ℕ) (t : S) → Written i t → length xs ≤ i → i ≤ length xs → WroteAll writes s xs (Ok tt) t × Extended (capacity s) (places s) (map placeOf xs) (Ok tt) (places t)
   all-written i t h ge le =
       let l = length-map xs placeOf in
-      let r = h .room in
-      (h .calls (Ok tt) t (subst (λ ys. WroteAll writes t ys (Ok tt) t) (sym (nil (drop i xs) (omega (arith, length-drop i xs)))) none-left),
-      (omega arith, h .held ∙ ap (λ z. places s ++ map placeOf z) (take-all i xs ge)))
+      let r = h .room in (
+        h .calls (Ok tt) t (subst (λ ys. WroteAll writes t ys (Ok tt) t) (sym (nil (drop i xs) (omega (arith, length-drop i xs)))) none-left),
+        (omega arith, h .held ∙ ap (λ z. places s ++ map placeOf z) (take-all i xs ge)),
+      )
     where
       nil : {A : Type 0} (ys : List A) → length ys ≡ 0 → ys ≡ []
       nil [] e = refl

@@ -5,6 +5,7 @@ ghost use mathlib.Core.Path.{_≡_};
 ghost use mathlib.Core.List.{[], reverse};
 ghost use lib.ListN.{drop, length, take};
 ghost use Rattle.backends.specs.Cursors.{Checked, CursorPopped, CursorTook, CursorWrote, OpenedAt, at, queued, roomOf, stacked};
+
 mod calls;
 
 use super::fault::ReadFault;

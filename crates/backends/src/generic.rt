@@ -8,11 +8,11 @@ ghost use Rattle.model.specs.Stores.{valued};
 ghost use Rattle.backends.specs.Answers.{toldRead, toldWrite};
 ghost use Rattle.backends.specs.Chains.{Extended, Replaced, WroteAll};
 ghost use Rattle.backends.specs.Cursors.{wordAt};
+use super::fault::ReadFault;
 use super::traits::BoundedReadWords;
 use super::traits::BoundedWriteWords;
-use super::traits::Semantics;
-use super::fault::ReadFault;
 use super::traits::ReadWords;
+use super::traits::Semantics;
 use super::traits::WordSink;
 use super::traits::WordStack;
 use super::traits::WriteWords;
@@ -34,7 +34,10 @@ pub fn is_full<W: Word, B: BoundedWriteWords<W> + WordSink<W>>(store: &B) -> boo
 }
 
 // Writes words one after the other, up to the first that is refused; those before it stay.
-pub fn extend_from_iter<W: Word, B: WordSink<W>>(store: &mut B, words: &[W]) -> Result<(), BoundedWriteError>
+pub fn extend_from_iter<W: Word, B: WordSink<W>>(
+    store: &mut B,
+    words: &[W],
+) -> Result<(), BoundedWriteError>
     ensures calls { λ r. ⌜ WroteAll (B·WriteWords .writes) (now (store .entry)) (now (words .entry)) (toldWrite r) (now (store .exit)) ⌝ }
     ensures places { λ r. ⌜ Extended (B·WriteWords .capacity (now (store .entry))) (B·WriteWords .places (now (store .entry))) (map (wordAt (W·Word .value)) (now (words .entry))) (toldWrite r) (B·WriteWords .places (now (store .exit))) ⌝ }
     ensures same { λ _. ⌜ B·WriteWords .capacity (now (store .exit)) ≡ B·WriteWords .capacity (now (store .entry)) ⌝ }
@@ -46,7 +49,10 @@ pub fn extend_from_iter<W: Word, B: WordSink<W>>(store: &mut B, words: &[W]) -> 
 }
 
 // Puts a word in the place of the newest, which is answered; the room that the old one leaves is enough.
-pub fn replace_newest<W: Word, B: WordStack<W>>(store: &mut B, word: W) -> Result<Option<W>, ReadFault>
+pub fn replace_newest<W: Word, B: WordStack<W>>(
+    store: &mut B,
+    word: W,
+) -> Result<Option<W>, ReadFault>
     ensures places { λ r. ⌜ Replaced (B·WriteWords .places (now (store .entry))) (W·Word .value word) (valued (W·Word .value) (toldRead r)) (B·WriteWords .places (now (store .exit))) ⌝ }
     ensures same { λ _. ⌜ B·WriteWords .capacity (now (store .exit)) ≡ B·WriteWords .capacity (now (store .entry)) ⌝ }
 {

@@ -44,7 +44,7 @@ returns g c =
     let u = c .write .last .self in
     let m = read-of (b .places s) (b .places t) _ _ (valued v (toldRead (c .read .result))) (law .newest s) (law .newest t) (c .read .ensures .means) in
     let took : StackRead (b .places s) (Ok (Some (v (c .in-Some .old)))) (b .places t) =
-        subst (λ x. StackRead (b .places s) (valued v (toldRead x)) (b .places t)) (c .in-Continue-old .was tt ∙ ap Ok (c .in-Some .is)) m in
+    subst (λ x. StackRead (b .places s) (valued v (toldRead x)) (b .places t)) (c .in-Continue-old .was tt ∙ ap Ok (c .in-Some .is)) m in
     let same = law .kept s t _ (c .read .ensures .does) in
     let less : length (b .places t) < b .capacity s = room-left (b .places s) (b .places t) (v (c .in-Some .old)) (b .capacity s) (g .B·WordSink·met .within s) took in
     let lt : length (b .places t) < b .capacity t = rw same less in

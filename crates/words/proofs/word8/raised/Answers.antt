@@ -7,8 +7,7 @@ use Rattle.words.proofs.word8.raised.Needs as need
 pub returns : need.returns
 returns c =
     let p = c .args .part in
-    let lt = room 8 (p .mask) (p .word) (c .pre) in
-    (
+    let lt = room 8 (p .mask) (p .word) (c .pre) in (
       low-mod 8 (bitOr (p .word) (c .next .result)) ∙ seal-held 8 (p .mask) (p .word) (c .next .result) (p .below) lt (c .next .ensures lt),
       seal-small 8 (p .mask) (p .word) (c .next .result) (p .below) lt (c .next .ensures lt),
     )

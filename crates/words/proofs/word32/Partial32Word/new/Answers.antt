@@ -1,8 +1,0 @@
-use Rattle.words.proofs.Parts.{empty-single, empty-below, empty-held}
-use Rattle.words.proofs.word32.Partial32Word.new.Needs as need
-
-pub ghost-result : need.ghost-result
-ghost-result c = (empty-single 32, (empty-below 32, tt))
-
-pub returns : need.returns
-returns c = empty-held 32

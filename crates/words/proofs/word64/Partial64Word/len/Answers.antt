@@ -1,6 +1,0 @@
-use mathlib.Core.Path.{sym}
-use Rattle.words.proofs.Parts.{held-length}
-use Rattle.words.proofs.word64.Partial64Word.len.Needs as need
-
-pub returns : need.returns
-returns c = let p = c .args .self .now in sym (held-length 64 (p .mask) (p .word))
