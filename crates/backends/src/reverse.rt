@@ -1,0 +1,50 @@
+// A store read under the other reading name.
+use super::fault::ReadFault;
+use super::traits::BoundedReadWords;
+use super::traits::Queue;
+use super::traits::QueueSemantics;
+use super::traits::ReadWords;
+use super::traits::Stack;
+use super::traits::StackSemantics;
+use super::traits::WordSource;
+use words::Word;
+
+// Read as a queue it gives what the store gives as a stack, and the other way round.
+#[derive(Drop)]
+pub struct Reverse<B>(pub B);
+
+pub impl<W: Word, B: ReadWords<W, Stack>> ReadWords<W, Queue> for Reverse<B> as ReverseQueue {
+    ghost coming = { λ s. B·ReadWords .coming (s .0) };
+
+    ghost reads = { λ s r t. B·ReadWords .reads (s .0) r (t .0) };
+
+    fn read(&mut self) -> Result<Option<W>, ReadFault> {
+        self.0.read()
+    }
+}
+
+pub impl<W: Word, B: ReadWords<W, Queue>> ReadWords<W, Stack> for Reverse<B> as ReverseStack {
+    ghost coming = { λ s. B·ReadWords .coming (s .0) };
+
+    ghost reads = { λ s r t. B·ReadWords .reads (s .0) r (t .0) };
+
+    fn read(&mut self) -> Result<Option<W>, ReadFault> {
+        self.0.read()
+    }
+}
+
+pub impl<W: Word, B: BoundedReadWords<W, Stack>> BoundedReadWords<W, Queue> for Reverse<B> as ReverseQueueBound {
+    fn remaining(&self) -> usize {
+        self.0.remaining()
+    }
+}
+
+pub impl<W: Word, B: BoundedReadWords<W, Queue>> BoundedReadWords<W, Stack> for Reverse<B> as ReverseStackBound {
+    fn remaining(&self) -> usize {
+        self.0.remaining()
+    }
+}
+
+pub impl<W: Word, B: WordSource<W, Stack>> WordSource<W, Queue> for Reverse<B> as ReverseQueueSource {}
+
+pub impl<W: Word, B: WordSource<W, Queue>> WordSource<W, Stack> for Reverse<B> as ReverseStackSource {}
