@@ -1,4 +1,5 @@
 pub mod Answers
 pub mod Cursors
+pub mod Reversed
 pub mod Slices
 pub mod Sources

@@ -1,13 +1,23 @@
 // A store read under the other reading name.
+ghost use denote.Ref.{now};
+ghost use Rattle.backends.specs.Reversed.{TurnedWrote, turnedRoom, turnedStack};
+use super::cursor::Cursor;
+use super::cursor::CursorQueue;
+use super::cursor::CursorQueueSource;
 use super::fault::ReadFault;
 use super::traits::BoundedReadWords;
+use super::traits::BoundedWriteWords;
 use super::traits::Queue;
 use super::traits::QueueSemantics;
 use super::traits::ReadWords;
 use super::traits::Stack;
 use super::traits::StackSemantics;
+use super::traits::WordSink;
 use super::traits::WordSource;
+use super::traits::WordStack;
+use super::traits::WriteWords;
 use words::Word;
+use words::fault::BoundedWriteError;
 
 // Read as a queue it gives what the store gives as a stack, and the other way round.
 #[derive(Drop)]
@@ -48,3 +58,30 @@ pub impl<W: Word, B: BoundedReadWords<W, Queue>> BoundedReadWords<W, Stack> for 
 pub impl<W: Word, B: WordSource<W, Stack>> WordSource<W, Queue> for Reverse<B> as ReverseQueueSource {}
 
 pub impl<W: Word, B: WordSource<W, Queue>> WordSource<W, Stack> for Reverse<B> as ReverseStackSource {}
+
+pub impl<'a, W: Word> WriteWords<W> for Reverse<Cursor<'a, W>> as ReverseCursorWrite {
+    ghost places = { turnedStack (W·Word .value) };
+
+    ghost capacity = { turnedRoom };
+
+    ghost writes = { TurnedWrote };
+
+    fn write(&mut self, word: W) -> Result<(), BoundedWriteError> {
+        let at = self.0.place();
+        if at == 0 {
+            return Err(BoundedWriteError::OutOfSpace);
+        }
+        self.0.put(at - 1, word);
+        Ok(())
+    }
+}
+
+pub impl<'a, W: Word> BoundedWriteWords<W> for Reverse<Cursor<'a, W>> as ReverseCursorSpace {
+    fn space_left(&self) -> usize {
+        self.0.place()
+    }
+}
+
+pub impl<'a, W: Word> WordSink<W> for Reverse<Cursor<'a, W>> as ReverseCursorSink {}
+
+pub impl<'a, W: Word> WordStack<W> for Reverse<Cursor<'a, W>> as ReverseCursorStack {}

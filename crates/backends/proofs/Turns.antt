@@ -1,0 +1,68 @@
+-- The places of a slice that is filled from its end down, and of a slice that is turned.
+use mathlib.Core.Path.{_≡_, refl, sym, ap, ap₂, _∙_}
+use mathlib.Core.List.{List, [], _∷_, _++_, map, reverse, reverse-append, reverse-cons}
+use Prim.Native.Nat.{ℕ, min, _+_, _-_, _^_, _<_, _≤_}
+use native.Mathlib.Omega.{arith}
+use lib.ListN.{length, take, drop, set, length-set, length-drop, take-append-drop}
+use lib.Seq.{take-set-lt, take-at, drop-at, take-all}
+use Rattle.std.proofs.shelf.Lists.{drop-set, length-take-le, map-append}
+use Rattle.model.specs.Cells.{Place}
+use Rattle.backends.specs.Slices.{spread, before, front, rest}
+use Rattle.backends.proofs.Fronts.{length-turned}
+
+pub map-reverse : {A B : Type 0} (f : A → B) (xs : List A) → map f (reverse xs) ≡ reverse (map f xs)
+map-reverse f [] = refl
+map-reverse f (x ∷ xs) =
+    ap (map f) (reverse-cons x xs)
+    ∙ map-append f (reverse xs) (x ∷ [])
+    ∙ ap (λ t. t ++ (f x ∷ [])) (map-reverse f xs)
+    ∙ sym (reverse-cons (f x) (map f xs))
+
+pub set-spread : {A : Type 0} (xs : List A) (i : ℕ) (x : A) → spread (set xs i x) ≡ spread xs
+set-spread xs i x = ap (λ k. min (2 ^ 56) k) (length-set xs i x)
+
+module _ {A : Type 0} (place : A → Place) (xs : List A) (pos n : ℕ) (is : n ≡ before xs pos) where
+  -- the slot below the position is written
+  pub rest-less : (x : A) → (n ≡ 0 → ⊥) → rest place (set xs (n - 1) x) (n - 1) ≡ place x ∷ rest place xs pos
+  rest-less x some =
+      let l = length-set xs (n - 1) x in
+      let here : before (set xs (n - 1) x) (n - 1) ≡ n - 1 = omega arith in
+      let wide : spread (set xs (n - 1) x) ≡ spread xs = omega arith in
+      let long : length (take (spread xs) xs) ≡ spread xs = length-take-le (spread xs) xs (omega arith) in
+      let next : (n - 1) + 1 ≡ before xs pos = omega arith in
+      ap₂ (λ k m. map place (drop k (take m (set xs (n - 1) x)))) here wide
+      ∙ ap (λ t. map place (drop (n - 1) t)) (take-set-lt (spread xs) xs (n - 1) x (omega arith))
+      ∙ ap (map place) (drop-set (take (spread xs) xs) (n - 1) x (omega arith))
+      ∙ ap (λ k. place x ∷ map place (drop k (take (spread xs) xs))) next
+
+  -- the turned slice, with the position counted from its end
+  module _ (few : length xs ≤ 2 ^ 56) where
+    halves : reverse xs ≡ reverse (drop n xs) ++ reverse (take n xs)
+    halves = ap reverse (sym (take-append-drop n xs)) ∙ reverse-append (take n xs) (drop n xs)
+
+    size : length (reverse (drop n xs)) ≡ length xs - n
+    size = length-turned (drop n xs) ∙ length-drop n xs
+
+    there : before (reverse xs) (length xs - n) ≡ length xs - n
+    there = let l = length-turned xs in omega arith
+
+    all : take (spread (reverse xs)) (reverse xs) ≡ reverse xs
+    all = let l = length-turned xs in take-all (spread (reverse xs)) (reverse xs) (omega arith)
+
+    pub turned-rest : rest place (reverse xs) (length xs - n) ≡ reverse (front place xs pos)
+    turned-rest =
+        ap₂ (λ k t. map place (drop k t)) there (all ∙ halves)
+        ∙ ap (map place) (drop-at (reverse (drop n xs)) (reverse (take n xs)) (length xs - n) size)
+        ∙ map-reverse place (take n xs)
+        ∙ ap (λ k. reverse (map place (take k xs))) is
+
+    pub turned-front : front place (reverse xs) (length xs - n) ≡ reverse (rest place xs pos)
+    turned-front =
+        let m : length xs ≤ spread xs = omega arith in
+        ap₂ (λ k t. map place (take k t)) there halves
+        ∙ ap (map place) (take-at (reverse (drop n xs)) (reverse (take n xs)) (length xs - n) size)
+        ∙ map-reverse place (drop n xs)
+        ∙ ap₂ (λ k t. reverse (map place (drop k t))) is (sym (take-all (spread xs) xs m))
+
+    pub turned-spread : spread (reverse xs) ≡ spread xs
+    turned-spread = ap (λ k. min (2 ^ 56) k) (length-turned xs)

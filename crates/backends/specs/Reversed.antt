@@ -1,0 +1,28 @@
+-- The reversed cursor: a lent slice of words and a position, filled from its end down.
+use mathlib.Core.Path.{_≡_}
+use mathlib.Core.List.{List, reverse}
+use Prim.Native.Nat.{ℕ, _-_}
+use denote.Ref.{now}
+use lib.ListN.{set}
+use Rattle.model.specs.Cells.{Place}
+use Rattle.model.specs.Refusals.{Answer}
+use Rattle.std.specs.declared.result.Result.the-variants.{Ok, Err}
+use Rattle.backends.specs.declared.cursor.Cursor.{Cursor}
+use Rattle.backends.specs.declared.reverse.Reverse.{Reverse}
+use Rattle.backends.specs.Cursors.{Holds, at, queued, roomOf, stacked}
+
+-- As a stack it holds the words from the last slot down to the position, oldest first; as a source those below the position, next first.
+abbrev pub turnedStack : {W : Type 0} → (W → ℕ) → Reverse (Cursor W) → List Place
+turnedStack value r = reverse (queued value (r .0))
+
+abbrev pub turnedQueue : {W : Type 0} → (W → ℕ) → Reverse (Cursor W) → List Place
+turnedQueue value r = reverse (stacked value (r .0))
+
+-- its capacity is the slice's length
+abbrev pub turnedRoom : {W : Type 0} → Reverse (Cursor W) → ℕ
+turnedRoom r = roomOf (r .0)
+
+-- A write puts the word into the slot below the position and moves there; a refused one changes nothing.
+abbrev pub TurnedWrote : {W : Type 0} → Reverse (Cursor W) → W → Answer (Unit {0}) → Reverse (Cursor W) → Type 0
+TurnedWrote s x (Ok _) t = Holds (s .0) (t .0) (set (now (s .0 .buf)) (at (s .0) - 1) x) (at (s .0) - 1)
+TurnedWrote s x (Err e) t = t ≡ s
