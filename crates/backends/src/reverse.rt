@@ -1,5 +1,10 @@
 // A store read under the other reading name.
-ghost use denote.Ref.{now};
+ghost use denote.Ref.{name, now};
+ghost use mathlib.Core.List.{reverse};
+ghost use mathlib.Core.Path.{_≡_};
+ghost use Prim.Native.Nat.{_-_};
+ghost use lib.ListN.{length};
+ghost use Rattle.backends.specs.Cursors.{at};
 ghost use Rattle.backends.specs.Reversed.{TurnedWrote, turnedRoom, turnedStack};
 use super::cursor::Cursor;
 use super::cursor::CursorQueue;
@@ -85,3 +90,17 @@ pub impl<'a, W: Word> BoundedWriteWords<W> for Reverse<Cursor<'a, W>> as Reverse
 pub impl<'a, W: Word> WordSink<W> for Reverse<Cursor<'a, W>> as ReverseCursorSink {}
 
 pub impl<'a, W: Word> WordStack<W> for Reverse<Cursor<'a, W>> as ReverseCursorStack {}
+
+impl<'a, W: Word> Cursor<'a, W> {
+    // The same store over the turned slice.
+    pub fn into_reversed(self) -> Reverse<Cursor<'a, W>>
+        ensures lent { λ r. ⌜ name (r .0 .buf) ≡ name (self .entry .buf) ⌝ }
+        ensures slots { λ r. ⌜ now (r .0 .buf) ≡ reverse (now (self .entry .buf)) ⌝ }
+        ensures stands { λ r. ⌜ r .0 .pos ≡ length (now (self .entry .buf)) - at (self .entry) ⌝ }
+    {
+        let pos = self.buf.len() - self.place();
+        let buf = self.buf;
+        buf.reverse();
+        Reverse(Cursor { buf, pos })
+    }
+}
