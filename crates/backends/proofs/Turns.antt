@@ -1,12 +1,16 @@
 -- The places of a slice that is filled from its end down, and of a slice that is turned.
 use mathlib.Core.Path.{_≡_, refl, sym, ap, ap₂, _∙_}
-use mathlib.Core.List.{List, [], _∷_, _++_, map, reverse, reverse-append, reverse-cons}
+use mathlib.Core.List.{List, [], _∷_, _++_, map, reverse, reverse-append, reverse-cons, reverse-reverse}
 use Prim.Native.Nat.{ℕ, min, _+_, _-_, _^_, _<_, _≤_}
 use native.Mathlib.Omega.{arith}
+use denote.Ref.{now}
 use lib.ListN.{length, take, drop, set, length-set, length-drop, take-append-drop}
 use lib.Seq.{take-set-lt, take-at, drop-at, take-all}
 use Rattle.std.proofs.shelf.Lists.{drop-set, length-take-le, map-append}
 use Rattle.model.specs.Cells.{Place}
+use Rattle.backends.specs.declared.cursor.Cursor.{Cursor}
+use Rattle.backends.specs.Cursors.{Placed, at, queued, roomOf, stacked, wordAt}
+use Rattle.backends.specs.Reversed.{SameStore, Turned, TurnsBack}
 use Rattle.backends.specs.Slices.{spread, before, front, rest}
 use Rattle.backends.proofs.Fronts.{length-turned}
 
@@ -20,6 +24,9 @@ map-reverse f (x ∷ xs) =
 
 pub set-spread : {A : Type 0} (xs : List A) (i : ℕ) (x : A) → spread (set xs i x) ≡ spread xs
 set-spread xs i x = ap (λ k. min (2 ^ 56) k) (length-set xs i x)
+
+turned-spread : {A : Type 0} (xs : List A) → spread (reverse xs) ≡ spread xs
+turned-spread xs = ap (λ k. min (2 ^ 56) k) (length-turned xs)
 
 module _ {A : Type 0} (place : A → Place) (xs : List A) (pos n : ℕ) (is : n ≡ before xs pos) where
   -- the slot below the position is written
@@ -64,5 +71,42 @@ module _ {A : Type 0} (place : A → Place) (xs : List A) (pos n : ℕ) (is : n 
         ∙ map-reverse place (drop n xs)
         ∙ ap₂ (λ k t. reverse (map place (drop k t))) is (sym (take-all (spread xs) xs m))
 
-    pub turned-spread : spread (reverse xs) ≡ spread xs
-    turned-spread = ap (λ k. min (2 ^ 56) k) (length-turned xs)
+
+-- A turned cursor is the same store, and turned again it is the first.
+module _ {W : Type 0} (value : W → ℕ) (s t : Cursor W) (turn : Turned s t) where
+  swapped-rest : length (now (s .buf)) ≤ 2 ^ 56 → queued value t ≡ reverse (stacked value s)
+  swapped-rest few =
+      ap₂ (λ ys p. rest (wordAt value) ys p) (turn .slots) (turn .stands)
+      ∙ turned-rest (wordAt value) (now (s .buf)) (s .pos) (at s) refl few
+
+  swapped-front : length (now (s .buf)) ≤ 2 ^ 56 → stacked value t ≡ reverse (queued value s)
+  swapped-front few =
+      ap₂ (λ ys p. front (wordAt value) ys p) (turn .slots) (turn .stands)
+      ∙ turned-front (wordAt value) (now (s .buf)) (s .pos) (at s) refl few
+
+  swapped-room : roomOf t ≡ roomOf s
+  swapped-room = ap spread (turn .slots) ∙ turned-spread (now (s .buf))
+
+  pub same-reversed : length (now (s .buf)) ≤ 2 ^ 56 → SameStore value s (record { 0 = t })
+  same-reversed few = record {
+    stack = ap reverse (swapped-rest few) ∙ reverse-reverse (stacked value s);
+    queue = ap reverse (swapped-front few) ∙ reverse-reverse (queued value s);
+    room = swapped-room;
+  }
+
+  pub reversed-same : length (now (s .buf)) ≤ 2 ^ 56 → SameStore value t (record { 0 = s })
+  reversed-same few = record {
+    stack = sym (swapped-front few);
+    queue = sym (swapped-rest few);
+    room = sym swapped-room;
+  }
+
+  pub turns-back : Placed (length (now (s .buf))) (s .pos) → TurnsBack s t
+  turns-back placed u again =
+      let l : length (now (t .buf)) ≡ length (now (s .buf)) = ap length (turn .slots) ∙ length-turned (now (s .buf)) in
+      let p = turn .stands in
+      record {
+        lent = again .lent ∙ turn .lent;
+        slots = again .slots ∙ ap reverse (turn .slots) ∙ reverse-reverse (now (s .buf));
+        stands = again .stands ∙ omega arith;
+      }

@@ -3,7 +3,7 @@ use mathlib.Core.Path.{_≡_}
 use mathlib.Core.List.{List, reverse}
 use Prim.Native.Nat.{ℕ, _-_}
 use denote.Ref.{now}
-use lib.ListN.{set}
+use lib.ListN.{length, set}
 use Rattle.model.specs.Cells.{Place}
 use Rattle.model.specs.Refusals.{Answer}
 use Rattle.std.specs.declared.result.Result.the-variants.{Ok, Err}
@@ -26,3 +26,17 @@ turnedRoom r = roomOf (r .0)
 abbrev pub TurnedWrote : {W : Type 0} → Reverse (Cursor W) → W → Answer (Unit {0}) → Reverse (Cursor W) → Type 0
 TurnedWrote s x (Ok _) t = Holds (s .0) (t .0) (set (now (s .0 .buf)) (at (s .0) - 1) x) (at (s .0) - 1)
 TurnedWrote s x (Err e) t = t ≡ s
+
+-- A turn: the same slice is lent, its elements stand in the opposite order, and the position counts from the other end.
+abbrev pub Turned : {W : Type 0} → Cursor W → Cursor W → Type 0
+Turned s t = Holds s t (reverse (now (s .buf))) (length (now (s .buf)) - at s)
+
+-- a cursor and a reversed cursor that are the same store
+pub record SameStore {W : Type 0} (value : W → ℕ) (s : Cursor W) (r : Reverse (Cursor W)) : Type 0 where
+  pub stack : turnedStack value r ≡ stacked value s
+  pub queue : turnedQueue value r ≡ queued value s
+  pub room : turnedRoom r ≡ roomOf s
+
+-- t turned is s again
+abbrev pub TurnsBack : {W : Type 0} → Cursor W → Cursor W → Type 0
+TurnsBack {W} s t = (u : Cursor W) → Turned t u → Holds s u (now (s .buf)) (s .pos)

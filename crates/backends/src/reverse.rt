@@ -1,11 +1,9 @@
 // A store read under the other reading name.
-ghost use denote.Ref.{name, now};
-ghost use mathlib.Core.List.{reverse};
-ghost use mathlib.Core.Path.{_≡_};
-ghost use Prim.Native.Nat.{_-_};
+ghost use denote.Ref.{now};
+ghost use Prim.Native.Nat.{_^_, _≤_};
 ghost use lib.ListN.{length};
-ghost use Rattle.backends.specs.Cursors.{at};
-ghost use Rattle.backends.specs.Reversed.{TurnedWrote, turnedRoom, turnedStack};
+ghost use Rattle.backends.specs.Cursors.{Placed};
+ghost use Rattle.backends.specs.Reversed.{SameStore, Turned, TurnedWrote, TurnsBack, turnedRoom, turnedStack};
 use super::cursor::Cursor;
 use super::cursor::CursorQueue;
 use super::cursor::CursorQueueSource;
@@ -92,15 +90,34 @@ pub impl<'a, W: Word> WordSink<W> for Reverse<Cursor<'a, W>> as ReverseCursorSin
 pub impl<'a, W: Word> WordStack<W> for Reverse<Cursor<'a, W>> as ReverseCursorStack {}
 
 impl<'a, W: Word> Cursor<'a, W> {
-    // The same store over the turned slice.
+    // The same store, in the slice turned end for end.
     pub fn into_reversed(self) -> Reverse<Cursor<'a, W>>
-        ensures lent { λ r. ⌜ name (r .0 .buf) ≡ name (self .entry .buf) ⌝ }
-        ensures slots { λ r. ⌜ now (r .0 .buf) ≡ reverse (now (self .entry .buf)) ⌝ }
-        ensures stands { λ r. ⌜ r .0 .pos ≡ length (now (self .entry .buf)) - at (self .entry) ⌝ }
+        ensures turned { λ r. ⌜ Turned (self .entry) (r .0) ⌝ }
+        ensures same { λ r. ⌜ (length (now (self .entry .buf)) ≤ 2 ^ 56 → SameStore (W·Word .value) (self .entry) r) ⌝ }
+        ensures back { λ r. ⌜ (Placed (length (now (self .entry .buf))) (self .entry .pos) → TurnsBack (self .entry) (r .0)) ⌝ }
+    {
+        Reverse(self.turned())
+    }
+
+    // The slice turned end for end, and the position counted from the other end.
+    fn turned(self) -> Cursor<'a, W>
+        ensures { λ r. ⌜ Turned (self .entry) r ⌝ }
     {
         let pos = self.buf.len() - self.place();
         let buf = self.buf;
         buf.reverse();
-        Reverse(Cursor { buf, pos })
+        Cursor { buf, pos }
+    }
+}
+
+impl<'a, W: Word> Reverse<Cursor<'a, W>> {
+    // The same store, in the slice turned end for end.
+    pub fn into_reversed(self) -> Cursor<'a, W>
+        ensures turned { λ r. ⌜ Turned (self .entry .0) r ⌝ }
+        ensures same { λ r. ⌜ (length (now (self .entry .0 .buf)) ≤ 2 ^ 56 → SameStore (W·Word .value) r (self .entry)) ⌝ }
+        ensures back { λ r. ⌜ (Placed (length (now (self .entry .0 .buf))) (self .entry .0 .pos) → TurnsBack (self .entry .0) r) ⌝ }
+    {
+        let Reverse(cursor) = self;
+        cursor.turned()
     }
 }
