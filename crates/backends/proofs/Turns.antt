@@ -7,14 +7,17 @@ use denote.Ref.{now}
 use lib.ListN.{length, take, drop, set, length-set, length-drop, take-append-drop}
 use lib.Seq.{take-set-lt, take-at, drop-at, take-all}
 use Rattle.std.proofs.shelf.Lists.{drop-set, length-take-le, map-append}
+use Rattle.std.specs.declared.result.Result.the-variants.{Ok, Err}
 use Rattle.model.specs.Cells.{Place}
+use Rattle.model.specs.Refusals.{Answer}
+use Rattle.model.specs.Stores.{StackWritten}
 use Rattle.backends.specs.declared.cursor.Cursor.{Cursor}
 use Rattle.backends.specs.Cursors.{Placed, at, queued, roomOf, stacked, wordAt}
-use Rattle.backends.specs.Reversed.{SameStore, Turned, TurnsBack}
+use Rattle.backends.specs.Reversed.{PutBelow, SameStore, Turned, TurnsBack}
 use Rattle.backends.specs.Slices.{spread, before, front, rest}
-use Rattle.backends.proofs.Fronts.{length-turned}
+use Rattle.backends.proofs.Fronts.{how-many-left, length-turned}
 
-pub map-reverse : {A B : Type 0} (f : A → B) (xs : List A) → map f (reverse xs) ≡ reverse (map f xs)
+map-reverse : {A B : Type 0} (f : A → B) (xs : List A) → map f (reverse xs) ≡ reverse (map f xs)
 map-reverse f [] = refl
 map-reverse f (x ∷ xs) =
     ap (map f) (reverse-cons x xs)
@@ -22,7 +25,7 @@ map-reverse f (x ∷ xs) =
     ∙ ap (λ t. t ++ (f x ∷ [])) (map-reverse f xs)
     ∙ sym (reverse-cons (f x) (map f xs))
 
-pub set-spread : {A : Type 0} (xs : List A) (i : ℕ) (x : A) → spread (set xs i x) ≡ spread xs
+set-spread : {A : Type 0} (xs : List A) (i : ℕ) (x : A) → spread (set xs i x) ≡ spread xs
 set-spread xs i x = ap (λ k. min (2 ^ 56) k) (length-set xs i x)
 
 turned-spread : {A : Type 0} (xs : List A) → spread (reverse xs) ≡ spread xs
@@ -30,7 +33,7 @@ turned-spread xs = ap (λ k. min (2 ^ 56) k) (length-turned xs)
 
 module _ {A : Type 0} (place : A → Place) (xs : List A) (pos n : ℕ) (is : n ≡ before xs pos) where
   -- the slot below the position is written
-  pub rest-less : (x : A) → (n ≡ 0 → ⊥) → rest place (set xs (n - 1) x) (n - 1) ≡ place x ∷ rest place xs pos
+  rest-less : (x : A) → (n ≡ 0 → ⊥) → rest place (set xs (n - 1) x) (n - 1) ≡ place x ∷ rest place xs pos
   rest-less x some =
       let l = length-set xs (n - 1) x in
       let here : before (set xs (n - 1) x) (n - 1) ≡ n - 1 = omega arith in
@@ -56,14 +59,14 @@ module _ {A : Type 0} (place : A → Place) (xs : List A) (pos n : ℕ) (is : n 
     all : take (spread (reverse xs)) (reverse xs) ≡ reverse xs
     all = let l = length-turned xs in take-all (spread (reverse xs)) (reverse xs) (omega arith)
 
-    pub turned-rest : rest place (reverse xs) (length xs - n) ≡ reverse (front place xs pos)
+    turned-rest : rest place (reverse xs) (length xs - n) ≡ reverse (front place xs pos)
     turned-rest =
         ap₂ (λ k t. map place (drop k t)) there (all ∙ halves)
         ∙ ap (map place) (drop-at (reverse (drop n xs)) (reverse (take n xs)) (length xs - n) size)
         ∙ map-reverse place (take n xs)
         ∙ ap (λ k. reverse (map place (take k xs))) is
 
-    pub turned-front : front place (reverse xs) (length xs - n) ≡ reverse (rest place xs pos)
+    turned-front : front place (reverse xs) (length xs - n) ≡ reverse (rest place xs pos)
     turned-front =
         let m : length xs ≤ spread xs = omega arith in
         ap₂ (λ k t. map place (take k t)) there halves
@@ -110,3 +113,23 @@ module _ {W : Type 0} (value : W → ℕ) (s t : Cursor W) (turn : Turned s t) w
         slots = again .slots ∙ ap reverse (turn .slots) ∙ reverse-reverse (now (s .buf));
         stands = again .stands ∙ omega arith;
       }
+
+-- A word put below the position is a write to the stack of the reversed cursor.
+module _ {W : Type 0} (value : W → ℕ) (s t : Cursor W) (x : W) where
+  many : length (reverse (queued value s)) ≡ roomOf s - at s
+  many = length-turned (queued value s) ∙ how-many-left (wordAt value) (now (s .buf)) (s .pos) (at s) refl
+
+  pub put-means : (r : Answer (Unit {0})) → PutBelow s x r t → StackWritten (roomOf s) (reverse (queued value s)) (value x) r (reverse (queued value t))
+  put-means (Ok _) (some, put) =
+      let l = many in
+      (
+        omega arith,
+        ap₂ (λ ys p. reverse (rest (wordAt value) ys p)) (put .slots) (put .stands)
+        ∙ ap reverse (rest-less (wordAt value) (now (s .buf)) (s .pos) (at s) refl x (λ z. omega arith))
+        ∙ reverse-cons (wordAt value x) (queued value s),
+      )
+  put-means (Err e) (none, full, still) = (many ∙ omega arith, full, ap (λ c. reverse (queued value c)) still)
+
+  pub put-room : (r : Answer (Unit {0})) → PutBelow s x r t → roomOf t ≡ roomOf s
+  put-room (Ok _) (some, put) = ap spread (put .slots) ∙ set-spread (now (s .buf)) (at s - 1) x
+  put-room (Err e) (none, full, still) = ap roomOf still

@@ -1,12 +1,13 @@
 -- The reversed cursor: a lent slice of words and a position, filled from its end down.
 use mathlib.Core.Path.{_≡_}
 use mathlib.Core.List.{List, reverse}
-use Prim.Native.Nat.{ℕ, _-_}
+use Prim.Native.Nat.{ℕ, _-_, _<_}
 use denote.Ref.{now}
 use lib.ListN.{length, set}
 use Rattle.model.specs.Cells.{Place}
 use Rattle.model.specs.Refusals.{Answer}
 use Rattle.std.specs.declared.result.Result.the-variants.{Ok, Err}
+use Rattle.model.specs.declared.refusal.Refusal.the-variants.{Full}
 use Rattle.backends.specs.declared.cursor.Cursor.{Cursor}
 use Rattle.backends.specs.declared.reverse.Reverse.{Reverse}
 use Rattle.backends.specs.Cursors.{Holds, at, queued, roomOf, stacked}
@@ -22,10 +23,14 @@ turnedQueue value r = reverse (stacked value (r .0))
 abbrev pub turnedRoom : {W : Type 0} → Reverse (Cursor W) → ℕ
 turnedRoom r = roomOf (r .0)
 
--- A write puts the word into the slot below the position and moves there; a refused one changes nothing.
+-- A word is put into the slot below the position, which moves there; at the beginning that is refused, and changes nothing.
+abbrev pub PutBelow : {W : Type 0} → Cursor W → W → Answer (Unit {0}) → Cursor W → Type 0
+PutBelow s x (Ok _) t = (0 < at s) × Holds s t (set (now (s .buf)) (at s - 1) x) (at s - 1)
+PutBelow s x (Err e) t = (at s ≡ 0) × (e ≡ Full) × (t ≡ s)
+
+-- what a write makes of the whole
 abbrev pub TurnedWrote : {W : Type 0} → Reverse (Cursor W) → W → Answer (Unit {0}) → Reverse (Cursor W) → Type 0
-TurnedWrote s x (Ok _) t = Holds (s .0) (t .0) (set (now (s .0 .buf)) (at (s .0) - 1) x) (at (s .0) - 1)
-TurnedWrote s x (Err e) t = t ≡ s
+TurnedWrote s x r t = PutBelow (s .0) x r (t .0)
 
 -- A turn: the same slice is lent, its elements stand in the opposite order, and the position counts from the other end.
 abbrev pub Turned : {W : Type 0} → Cursor W → Cursor W → Type 0

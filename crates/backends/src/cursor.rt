@@ -1,10 +1,10 @@
 // A lent slice of words with a position, as a stack, as a source and as a sink.
 ghost use denote.Ref.{name, now};
-ghost use Prim.Native.Nat.{ℕ, _<_};
+ghost use Prim.Native.Nat.{ℕ};
 ghost use mathlib.Core.Path.{_≡_};
 ghost use mathlib.Core.List.{[], reverse};
-ghost use lib.ListN.{drop, length, set, take};
-ghost use Rattle.backends.specs.Cursors.{Checked, CursorPopped, CursorTook, CursorWrote, Holds, Placed, at, queued, roomOf, stacked};
+ghost use lib.ListN.{drop, length, take};
+ghost use Rattle.backends.specs.Cursors.{Checked, CursorPopped, CursorTook, CursorWrote, Placed, at, queued, roomOf, stacked};
 use super::fault::ReadFault;
 use super::fault::SeekError;
 use super::traits::BoundedReadWords;
@@ -62,15 +62,6 @@ impl<'a, W: Word> Cursor<'a, W> {
         ensures { λ r. ⌜ r ≡ at (now (self .entry)) ⌝ }
     {
         self.pos.min(MOST_PLACES.min(self.buf.len()))
-    }
-
-    // Puts a word into a slot, and moves there.
-    pub(crate) fn put(&mut self, slot: usize, word: W)
-        requires { ⌜ slot < length (now (now self .buf)) ⌝ }
-        ensures { λ _. ⌜ Holds (now (self .entry)) (now (self .exit)) (set (now (now (self .entry) .buf)) slot word) slot ⌝ }
-    {
-        self.buf[slot] = word;
-        self.pos = slot;
     }
 }
 

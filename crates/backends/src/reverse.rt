@@ -2,8 +2,9 @@
 ghost use denote.Ref.{now};
 ghost use Prim.Native.Nat.{_^_, _≤_};
 ghost use lib.ListN.{length};
+ghost use Rattle.backends.specs.Answers.{toldWrite};
 ghost use Rattle.backends.specs.Cursors.{Placed};
-ghost use Rattle.backends.specs.Reversed.{SameStore, Turned, TurnedWrote, TurnsBack, turnedRoom, turnedStack};
+ghost use Rattle.backends.specs.Reversed.{PutBelow, SameStore, Turned, TurnedWrote, TurnsBack, turnedRoom, turnedStack};
 use super::cursor::Cursor;
 use super::cursor::CursorQueue;
 use super::cursor::CursorQueueSource;
@@ -32,7 +33,7 @@ pub impl<W: Word, B: ReadWords<W, Stack>> ReadWords<W, Queue> for Reverse<B> as 
     ghost reads = { λ s r t. B·ReadWords .reads (s .0) r (t .0) };
 
     fn read(&mut self) -> Result<Option<W>, ReadFault> {
-        self.0.read()
+        <B as ReadWords<W, Stack>>::read(&mut self.0)
     }
 }
 
@@ -42,7 +43,7 @@ pub impl<W: Word, B: ReadWords<W, Queue>> ReadWords<W, Stack> for Reverse<B> as 
     ghost reads = { λ s r t. B·ReadWords .reads (s .0) r (t .0) };
 
     fn read(&mut self) -> Result<Option<W>, ReadFault> {
-        self.0.read()
+        <B as ReadWords<W, Queue>>::read(&mut self.0)
     }
 }
 
@@ -70,12 +71,7 @@ pub impl<'a, W: Word> WriteWords<W> for Reverse<Cursor<'a, W>> as ReverseCursorW
     ghost writes = { TurnedWrote };
 
     fn write(&mut self, word: W) -> Result<(), BoundedWriteError> {
-        let at = self.0.place();
-        if at == 0 {
-            return Err(BoundedWriteError::OutOfSpace);
-        }
-        self.0.put(at - 1, word);
-        Ok(())
+        self.0.put_below(word)
     }
 }
 
@@ -107,6 +103,19 @@ impl<'a, W: Word> Cursor<'a, W> {
         let buf = self.buf;
         buf.reverse();
         Cursor { buf, pos }
+    }
+
+    // Puts a word into the slot below the position and moves there; refused without effect at the beginning.
+    fn put_below(&mut self, word: W) -> Result<(), BoundedWriteError>
+        ensures { λ r. ⌜ PutBelow (now (self .entry)) word (toldWrite r) (now (self .exit)) ⌝ }
+    {
+        let at = self.place();
+        if at == 0 {
+            return Err(BoundedWriteError::OutOfSpace);
+        }
+        self.buf[at - 1] = word;
+        self.pos = at - 1;
+        Ok(())
     }
 }
 
