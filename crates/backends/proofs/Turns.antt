@@ -74,7 +74,6 @@ module _ {A : Type 0} (place : A → Place) (xs : List A) (pos n : ℕ) (is : n 
         ∙ map-reverse place (drop n xs)
         ∙ ap₂ (λ k t. reverse (map place (drop k t))) is (sym (take-all (spread xs) xs m))
 
-
 -- A turned cursor is the same store, and turned again it is the first.
 module _ {W : Type 0} (value : W → ℕ) (s t : Cursor W) (turn : Turned s t) where
   swapped-rest : length (now (s .buf)) ≤ 2 ^ 56 → queued value t ≡ reverse (stacked value s)
@@ -121,12 +120,11 @@ module _ {W : Type 0} (value : W → ℕ) (s t : Cursor W) (x : W) where
 
   pub put-means : (r : Answer (Unit {0})) → PutBelow s x r t → StackWritten (roomOf s) (reverse (queued value s)) (value x) r (reverse (queued value t))
   put-means (Ok _) (some, put) =
-      let l = many in
-      (
+      let l = many in (
         omega arith,
         ap₂ (λ ys p. reverse (rest (wordAt value) ys p)) (put .slots) (put .stands)
-        ∙ ap reverse (rest-less (wordAt value) (now (s .buf)) (s .pos) (at s) refl x (λ z. omega arith))
-        ∙ reverse-cons (wordAt value x) (queued value s),
+            ∙ ap reverse (rest-less (wordAt value) (now (s .buf)) (s .pos) (at s) refl x (λ z. omega arith))
+            ∙ reverse-cons (wordAt value x) (queued value s),
       )
   put-means (Err e) (none, full, still) = (many ∙ omega arith, full, ap (λ c. reverse (queued value c)) still)
 

@@ -1,4 +1,4 @@
-// A store read under the other reading name.
+// A store read under the other reading name, and the cursor that is filled from the slice's end down.
 ghost use denote.Ref.{now};
 ghost use Prim.Native.Nat.{_^_, _≤_};
 ghost use lib.ListN.{length};
@@ -23,7 +23,7 @@ use super::traits::WriteWords;
 use words::Word;
 use words::fault::BoundedWriteError;
 
-// Read as a queue it gives what the store gives as a stack, and the other way round.
+// Read as a queue it gives what the wrapped store gives as a stack, and the other way round.
 #[derive(Drop)]
 pub struct Reverse<B>(pub B);
 
@@ -47,22 +47,35 @@ pub impl<W: Word, B: ReadWords<W, Queue>> ReadWords<W, Stack> for Reverse<B> as 
     }
 }
 
-pub impl<W: Word, B: BoundedReadWords<W, Stack>> BoundedReadWords<W, Queue> for Reverse<B> as ReverseQueueBound {
+pub impl<W: Word, B> BoundedReadWords<W, Queue> for Reverse<B> as ReverseQueueBound
+where
+    B: BoundedReadWords<W, Stack>,
+{
     fn remaining(&self) -> usize {
-        self.0.remaining()
+        <B as BoundedReadWords<W, Stack>>::remaining(&self.0)
     }
 }
 
-pub impl<W: Word, B: BoundedReadWords<W, Queue>> BoundedReadWords<W, Stack> for Reverse<B> as ReverseStackBound {
+pub impl<W: Word, B> BoundedReadWords<W, Stack> for Reverse<B> as ReverseStackBound
+where
+    B: BoundedReadWords<W, Queue>,
+{
     fn remaining(&self) -> usize {
-        self.0.remaining()
+        <B as BoundedReadWords<W, Queue>>::remaining(&self.0)
     }
 }
 
-pub impl<W: Word, B: WordSource<W, Stack>> WordSource<W, Queue> for Reverse<B> as ReverseQueueSource {}
+pub impl<W: Word, B> WordSource<W, Queue> for Reverse<B> as ReverseQueueSource
+where
+    B: WordSource<W, Stack>,
+{}
 
-pub impl<W: Word, B: WordSource<W, Queue>> WordSource<W, Stack> for Reverse<B> as ReverseStackSource {}
+pub impl<W: Word, B> WordSource<W, Stack> for Reverse<B> as ReverseStackSource
+where
+    B: WordSource<W, Queue>,
+{}
 
+// A reversed cursor holds, as a stack, the words from the last slot down to the position; its capacity is the slice's length.
 pub impl<'a, W: Word> WriteWords<W> for Reverse<Cursor<'a, W>> as ReverseCursorWrite {
     ghost places = { turnedStack (W·Word .value) };
 
