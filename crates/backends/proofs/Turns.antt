@@ -13,7 +13,7 @@ use Rattle.model.specs.Refusals.{Answer}
 use Rattle.model.specs.Stores.{StackWritten}
 use Rattle.backends.specs.declared.cursor.Cursor.{Cursor}
 use Rattle.backends.specs.Cursors.{Placed, at, queued, roomOf, stacked, wordAt}
-use Rattle.backends.specs.Reversed.{PutBelow, SameStore, Turned, TurnsBack}
+use Rattle.backends.specs.Reversed.{PutBelow, SameStore, Turned, TurnsBack, reversed}
 use Rattle.backends.specs.Slices.{spread, before, front, rest}
 use Rattle.backends.proofs.Fronts.{how-many-left, length-turned}
 
@@ -89,14 +89,14 @@ module _ {W : Type 0} (value : W → ℕ) (s t : Cursor W) (turn : Turned s t) w
   swapped-room : roomOf t ≡ roomOf s
   swapped-room = ap spread (turn .slots) ∙ turned-spread (now (s .buf))
 
-  pub same-reversed : length (now (s .buf)) ≤ 2 ^ 56 → SameStore value s (record { 0 = t })
+  pub same-reversed : length (now (s .buf)) ≤ 2 ^ 56 → SameStore value s (reversed t)
   same-reversed few = record {
     stack = ap reverse (swapped-rest few) ∙ reverse-reverse (stacked value s);
     queue = ap reverse (swapped-front few) ∙ reverse-reverse (queued value s);
     room = swapped-room;
   }
 
-  pub reversed-same : length (now (s .buf)) ≤ 2 ^ 56 → SameStore value t (record { 0 = s })
+  pub reversed-same : length (now (s .buf)) ≤ 2 ^ 56 → SameStore value t (reversed s)
   reversed-same few = record {
     stack = sym (swapped-front few);
     queue = sym (swapped-rest few);

@@ -12,6 +12,10 @@ use Rattle.backends.specs.declared.cursor.Cursor.{Cursor}
 use Rattle.backends.specs.declared.reverse.Reverse.{Reverse}
 use Rattle.backends.specs.Cursors.{Holds, at, queued, roomOf, stacked}
 
+-- a cursor, wrapped
+abbrev pub reversed : {W : Type 0} → Cursor W → Reverse (Cursor W)
+reversed c = record { 0 = c }
+
 -- As a stack it holds the words from the last slot down to the position, oldest first; as a source those below the position, next first.
 abbrev pub turnedStack : {W : Type 0} → (W → ℕ) → Reverse (Cursor W) → List Place
 turnedStack value r = reverse (queued value (r .0))

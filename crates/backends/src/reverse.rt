@@ -1,10 +1,11 @@
 // A store read under the other reading name, and the cursor that is filled from the slice's end down.
 ghost use denote.Ref.{now};
-ghost use Prim.Native.Nat.{_^_, _≤_};
+ghost use Prim.Native.Nat.{_-_, _^_, _≤_};
+ghost use mathlib.Core.Path.{_≡_};
 ghost use lib.ListN.{length};
 ghost use Rattle.backends.specs.Answers.{toldWrite};
-ghost use Rattle.backends.specs.Cursors.{Placed};
-ghost use Rattle.backends.specs.Reversed.{PutBelow, SameStore, Turned, TurnedWrote, TurnsBack, turnedRoom, turnedStack};
+ghost use Rattle.backends.specs.Cursors.{Placed, roomOf};
+ghost use Rattle.backends.specs.Reversed.{PutBelow, SameStore, Turned, TurnedWrote, TurnsBack, reversed, turnedRoom, turnedStack};
 use super::cursor::Cursor;
 use super::cursor::CursorQueue;
 use super::cursor::CursorQueueSource;
@@ -90,7 +91,7 @@ pub impl<'a, W: Word> WriteWords<W> for Reverse<Cursor<'a, W>> as ReverseCursorW
 
 pub impl<'a, W: Word> BoundedWriteWords<W> for Reverse<Cursor<'a, W>> as ReverseCursorSpace {
     fn space_left(&self) -> usize {
-        self.0.place()
+        self.0.room_below()
     }
 }
 
@@ -105,7 +106,17 @@ impl<'a, W: Word> Cursor<'a, W> {
         ensures same { λ r. ⌜ (length (now (self .entry .buf)) ≤ 2 ^ 56 → SameStore (W·Word .value) (self .entry) r) ⌝ }
         ensures back { λ r. ⌜ (Placed (length (now (self .entry .buf))) (self .entry .pos) → TurnsBack (self .entry) (r .0)) ⌝ }
     {
-        Reverse(self.turned())
+        Reverse(self.swapped())
+    }
+
+    // `turned`, with what that keeps.
+    fn swapped(self) -> Cursor<'a, W>
+        ensures turned { λ r. ⌜ Turned (self .entry) r ⌝ }
+        ensures there { λ r. ⌜ (length (now (self .entry .buf)) ≤ 2 ^ 56 → SameStore (W·Word .value) (self .entry) (reversed r)) ⌝ }
+        ensures again { λ r. ⌜ (length (now (self .entry .buf)) ≤ 2 ^ 56 → SameStore (W·Word .value) r (reversed (self .entry))) ⌝ }
+        ensures back { λ r. ⌜ (Placed (length (now (self .entry .buf))) (self .entry .pos) → TurnsBack (self .entry) r) ⌝ }
+    {
+        self.turned()
     }
 
     // The slice turned end for end, and the position counted from the other end.
@@ -116,6 +127,13 @@ impl<'a, W: Word> Cursor<'a, W> {
         let buf = self.buf;
         buf.reverse();
         Cursor { buf, pos }
+    }
+
+    // How many slots are below the position: the room that the words from there on leave.
+    fn room_below(&self) -> usize
+        ensures { λ r. ⌜ r ≡ roomOf (now (self .entry)) - length (turnedStack (W·Word .value) (reversed (now (self .entry)))) ⌝ }
+    {
+        self.place()
     }
 
     // Puts a word into the slot below the position and moves there; refused without effect at the beginning.
@@ -140,6 +158,6 @@ impl<'a, W: Word> Reverse<Cursor<'a, W>> {
         ensures back { λ r. ⌜ (Placed (length (now (self .entry .0 .buf))) (self .entry .0 .pos) → TurnsBack (self .entry .0) r) ⌝ }
     {
         let Reverse(cursor) = self;
-        cursor.turned()
+        cursor.swapped()
     }
 }
