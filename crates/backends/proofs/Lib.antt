@@ -2,3 +2,4 @@ pub mod Extending
 pub mod Fronts
 pub mod Newest
 pub mod StoreLaws
+pub mod Turns

@@ -1,5 +1,6 @@
 pub mod Answers
 pub mod Chains
 pub mod Cursors
+pub mod Reversed
 pub mod Slices
 pub mod Sources

@@ -31,8 +31,8 @@ pub const MOST_PLACES: usize = 0x100_0000_0000_0000;
 // position on.
 #[derive(Drop)]
 pub struct Cursor<'a, W> {
-    buf: &'a mut [W],
-    pos: usize,
+    pub(crate) buf: &'a mut [W],
+    pub(crate) pos: usize,
 }
 
 // Whether a cursor can stand at a position of a slice of so many words.
@@ -60,7 +60,7 @@ impl<'a, W: Word> Cursor<'a, W> {
     }
 
     // The position, as it counts.
-    fn place(&self) -> usize
+    pub(crate) fn place(&self) -> usize
         ensures { λ r. ⌜ r ≡ at (now (self .entry)) ⌝ }
     {
         self.pos.min(MOST_PLACES.min(self.buf.len()))

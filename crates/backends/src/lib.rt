@@ -2,4 +2,5 @@
 pub mod cursor;
 pub mod fault;
 pub mod generic;
+pub mod reverse;
 pub mod traits;
