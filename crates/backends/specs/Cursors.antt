@@ -3,12 +3,13 @@ use mathlib.Core.Path.{_≡_}
 use mathlib.Core.List.{List, []}
 use Prim.Native.Nat.{ℕ, _+_, _-_, _^_, _<_, _≤_}
 use denote.Ref.{name, now}
-use lib.ListN.{length, set}
+use lib.ListN.{getD, length, set}
 use Rattle.std.specs.declared.option.Option.{Option}
 use Rattle.std.specs.declared.option.Option.the-variants.{Some, None}
 use Rattle.std.specs.declared.result.Result.{Result}
 use Rattle.std.specs.declared.result.Result.the-variants.{Ok, Err}
 use Rattle.model.specs.Cells.{Place, word}
+use Rattle.model.specs.declared.refusal.Refusal.the-variants.{Full}
 use Rattle.model.specs.Refusals.{Answer}
 use Rattle.backends.specs.declared.cursor.Cursor.{Cursor}
 use Rattle.backends.specs.declared.fault.SeekError.{SeekError}
@@ -39,22 +40,23 @@ pub record Holds {W : Type 0} (s t : Cursor W) (elements : List W) (pos : ℕ) :
   pub slots : now (t .buf) ≡ elements
   pub stands : t .pos ≡ pos
 
--- A write puts the word into the slot at the position and moves on; a refused one changes nothing.
+-- A write puts the word into the slot at the position and moves on; at the slice's end it is refused, and changes nothing.
 abbrev pub CursorWrote : {W : Type 0} → Cursor W → W → Answer (Unit {0}) → Cursor W → Type 0
-CursorWrote s x (Ok _) t = Holds s t (set (now (s .buf)) (at s) x) (at s + 1)
-CursorWrote s x (Err e) t = t ≡ s
+CursorWrote s x (Ok _) t = (at s < roomOf s) × Holds s t (set (now (s .buf)) (at s) x) (at s + 1)
+CursorWrote s x (Err e) t = (at s ≡ roomOf s) × (e ≡ Full) × (t ≡ s)
 
--- A read of the newest word moves the position back, and changes no slot; none changes nothing.
+-- A read as a stack gives the word before the position and moves back, and changes no slot; at the beginning it gives none, and changes
+-- nothing.
 abbrev pub CursorPopped : {W : Type 0} → Cursor W → Answer (Option W) → Cursor W → Type 0
-CursorPopped s (Ok (Some x)) t = Holds s t (now (s .buf)) (at s - 1)
-CursorPopped s (Ok None) t = t ≡ s
-CursorPopped s (Err e) t = t ≡ s
+CursorPopped s (Ok (Some x)) t = (0 < at s) × (x ≡ getD (now (s .buf)) (at s - 1) x) × Holds s t (now (s .buf)) (at s - 1)
+CursorPopped s (Ok None) t = (at s ≡ 0) × (t ≡ s)
+CursorPopped s (Err e) t = ⊥
 
--- A read of the next word moves the position on.
+-- A read as a queue gives the word at the position and moves on, and changes no slot; at the end it gives none, and changes nothing.
 abbrev pub CursorTook : {W : Type 0} → Cursor W → Answer (Option W) → Cursor W → Type 0
-CursorTook s (Ok (Some x)) t = Holds s t (now (s .buf)) (at s + 1)
-CursorTook s (Ok None) t = t ≡ s
-CursorTook s (Err e) t = t ≡ s
+CursorTook s (Ok (Some x)) t = (at s < roomOf s) × (x ≡ getD (now (s .buf)) (at s) x) × Holds s t (now (s .buf)) (at s + 1)
+CursorTook s (Ok None) t = (at s ≡ roomOf s) × (t ≡ s)
+CursorTook s (Err e) t = ⊥
 
 -- a position in a slice of so many elements is one of a store
 abbrev pub Placed : ℕ → ℕ → Type 0

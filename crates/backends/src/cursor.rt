@@ -1,9 +1,11 @@
 // A lent slice of words with a position, as a stack, as a source and as a sink.
 ghost use denote.Ref.{name, now};
-ghost use Prim.Native.Nat.{ℕ};
+ghost use Prim.Native.Nat.{ℕ, _-_};
+ghost use Rattle.std.specs.declared.result.Result.the-variants.{Ok};
 ghost use mathlib.Core.Path.{_≡_};
 ghost use mathlib.Core.List.{[], reverse};
 ghost use lib.ListN.{drop, length, take};
+ghost use Rattle.backends.specs.Answers.{toldWrite};
 ghost use Rattle.backends.specs.Cursors.{Checked, CursorPopped, CursorTook, CursorWrote, OpenedAt, at, queued, roomOf, stacked};
 
 mod calls;
@@ -59,6 +61,58 @@ impl<'a, W: Word> Cursor<'a, W> {
         Cursor { buf, pos }
     }
 
+    // Puts a word into the slot at the position and moves on.
+    fn put(&mut self, word: W) -> Result<(), BoundedWriteError>
+        ensures { λ r. ⌜ CursorWrote (now (self .entry)) word (toldWrite r) (now (self .exit)) ⌝ }
+    {
+        let at = self.place();
+        if at >= self.buf.len() || at >= MOST_PLACES {
+            return Err(BoundedWriteError::OutOfSpace);
+        }
+        self.buf[at] = word;
+        self.pos = at + 1;
+        Ok(())
+    }
+
+    // The word before the position, to which it moves.
+    fn pop(&mut self) -> Option<W>
+        ensures { λ r. ⌜ CursorPopped (now (self .entry)) (Ok r) (now (self .exit)) ⌝ }
+    {
+        let at = self.place();
+        if at == 0 {
+            return None;
+        }
+        self.pos = at - 1;
+        Some(self.buf[at - 1])
+    }
+
+    // The word at the position, past which it moves.
+    fn next(&mut self) -> Option<W>
+        ensures { λ r. ⌜ CursorTook (now (self .entry)) (Ok r) (now (self .exit)) ⌝ }
+    {
+        let at = self.place();
+        if at >= self.buf.len() || at >= MOST_PLACES {
+            return None;
+        }
+        self.pos = at + 1;
+        Some(self.buf[at])
+    }
+
+    // How many slots are before the position: the words held as a stack.
+    fn held(&self) -> usize
+        ensures { λ r. ⌜ r ≡ length (reverse (stacked (W·Word .value) (now (self .entry)))) ⌝ }
+    {
+        self.place()
+    }
+
+    // How many slots there are from the position on: the words held as a queue, and the room.
+    fn ahead(&self) -> usize
+        ensures left { λ r. ⌜ r ≡ length (queued (W·Word .value) (now (self .entry))) ⌝ }
+        ensures room { λ r. ⌜ r ≡ roomOf (now (self .entry)) - length (stacked (W·Word .value) (now (self .entry))) ⌝ }
+    {
+        MOST_PLACES.min(self.buf.len()) - self.place()
+    }
+
     // The position, as it counts.
     pub(crate) fn place(&self) -> usize
         ensures { λ r. ⌜ r ≡ at (now (self .entry)) ⌝ }
@@ -75,13 +129,7 @@ pub impl<'a, W: Word> WriteWords<W> for Cursor<'a, W> as CursorWrite {
     ghost writes = { CursorWrote };
 
     fn write(&mut self, word: W) -> Result<(), BoundedWriteError> {
-        let at = self.place();
-        if at >= self.buf.len() || at >= MOST_PLACES {
-            return Err(BoundedWriteError::OutOfSpace);
-        }
-        self.buf[at] = word;
-        self.pos = at + 1;
-        Ok(())
+        self.put(word)
     }
 }
 
@@ -91,12 +139,7 @@ pub impl<'a, W: Word> ReadWords<W, Stack> for Cursor<'a, W> as CursorStack {
     ghost reads = { CursorPopped };
 
     fn read(&mut self) -> Result<Option<W>, ReadFault> {
-        let at = self.place();
-        if at == 0 {
-            return Ok(None);
-        }
-        self.pos = at - 1;
-        Ok(Some(self.buf[at - 1]))
+        Ok(self.pop())
     }
 }
 
@@ -106,30 +149,25 @@ pub impl<'a, W: Word> ReadWords<W, Queue> for Cursor<'a, W> as CursorQueue {
     ghost reads = { CursorTook };
 
     fn read(&mut self) -> Result<Option<W>, ReadFault> {
-        let at = self.place();
-        if at >= self.buf.len() || at >= MOST_PLACES {
-            return Ok(None);
-        }
-        self.pos = at + 1;
-        Ok(Some(self.buf[at]))
+        Ok(self.next())
     }
 }
 
 pub impl<'a, W: Word> BoundedReadWords<W, Stack> for Cursor<'a, W> as CursorStackBound {
     fn remaining(&self) -> usize {
-        self.place()
+        self.held()
     }
 }
 
 pub impl<'a, W: Word> BoundedReadWords<W, Queue> for Cursor<'a, W> as CursorQueueBound {
     fn remaining(&self) -> usize {
-        MOST_PLACES.min(self.buf.len()) - self.place()
+        self.ahead()
     }
 }
 
 pub impl<'a, W: Word> BoundedWriteWords<W> for Cursor<'a, W> as CursorSpace {
     fn space_left(&self) -> usize {
-        MOST_PLACES.min(self.buf.len()) - self.place()
+        self.ahead()
     }
 }
 

@@ -38,8 +38,8 @@ impl<'a, W: Word> Cursor<'a, W> {
     pub fn unwritten(&self) -> &[W]
         ensures { λ r. ⌜ now r ≡ drop (at (now (self .entry))) (now (now (self .entry) .buf)) ⌝ }
     {
-        let at = self.place();
-        &self.buf[at..]
+        let (_, rest) = self.buf.split_at(self.place());
+        rest
     }
 
     // The slice and the position.

@@ -12,9 +12,9 @@ use Rattle.backends.specs.Slices.{spread}
 use Rattle.backends.proofs.cursor.CursorWordStack.the-impl.Statement.{statement}
 
 kept : {W : Type 0} (s t : Cursor W) (r : Answer (Option W)) → CursorPopped s r t → roomOf t ≡ roomOf s
-kept s t (Ok (Some x)) h = ap spread (h .slots)
-kept s t (Ok None) h = ap roomOf h
-kept s t (Err e) h = ap roomOf h
+kept s t (Ok (Some x)) (_, _, h) = ap spread (h .slots)
+kept s t (Ok None) (_, h) = ap roomOf h
+kept s t (Err e) h = absurd h
 
 pub bound : statement
 bound = λ γ κ W P wl pl wc pc lives word wd part pd M 𝓤 H 𝓜 𝓖 𝓡 words parts. record {
