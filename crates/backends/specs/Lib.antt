@@ -1,4 +1,5 @@
 pub mod Answers
 pub mod Cursors
 pub mod Slices
+pub mod Small
 pub mod Sources
