@@ -1,3 +1,4 @@
 pub mod Faults
 pub mod Readers
 pub mod Records
+pub mod Written

@@ -5,7 +5,7 @@ use mathlib.Core.List.{List}
 use Prim.Native.Nat.{ℕ, _+_, _*_, _/_, _%_, _^_, min}
 use lib.Count.{ones}
 use lib.Dec.{eqb}
-use lib.ListN.{length, getD}
+use lib.ListN.{length, getD, set}
 use Rattle.std.specs.Iters.{counting}
 use Rattle.std.specs.declared.result.Result.{Result}
 use Rattle.std.specs.declared.result.Result.the-variants.{Ok, Err}
@@ -45,3 +45,8 @@ recordAt bytes pos = min pos (recordRoom bytes)
 abbrev pub RecordRead : Place → Result ℕ ReadFault → Type 0
 RecordRead p (Ok w) = p ≡ word (w % 2 ^ 32)
 RecordRead p (Err f) = p ≡ fault (f .place)
+
+-- the bytes once the record of a word is written at a record number
+abbrev pub putRecord : List ℕ → ℕ → ℕ → List ℕ
+putRecord bytes at w =
+    set (set (set (set (set bytes (5 * at) (w % 256)) (5 * at + 1) (w / 256 % 256)) (5 * at + 2) (w / 65536 % 256)) (5 * at + 3) (w / 16777216 % 256)) (5 * at + 4) (ones w)

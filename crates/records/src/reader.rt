@@ -1,6 +1,5 @@
 // Byte records that are only read.
 ghost use denote.Ref.{now};
-ghost use Prim.Native.Nat.{ℕ};
 ghost use mathlib.Core.Path.{_≡_};
 ghost use mathlib.Core.List.{[], reverse};
 ghost use lib.ListN.{length};

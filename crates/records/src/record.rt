@@ -4,7 +4,7 @@ ghost use Prim.Native.Nat.{_+_, _*_, _/_, _^_, _≤_, min};
 ghost use mathlib.Core.Path.{_≡_};
 ghost use lib.ListN.{length};
 ghost use Rattle.records.specs.Faults.{RecordsChecked};
-ghost use Rattle.records.specs.Records.{RecordRead, placeAt};
+ghost use Rattle.records.specs.Records.{RecordRead, placeAt, putRecord};
 use super::fault::RecordError;
 use backends::cursor::MOST_PLACES;
 use backends::fault::ReadFault;
@@ -55,4 +55,17 @@ pub(crate) fn record_at(bytes: &[u8], at: usize) -> Result<u32, ReadFault>
         return Ok(word);
     }
     Err(ReadFault { place: at as u64 })
+}
+
+// Writes the record of a word where the bytes have its place.
+pub(crate) fn put_record(bytes: &mut [u8], at: usize, word: u32)
+    requires { ⌜ 5 * at + 5 ≤ length (now bytes) ⌝ }
+    ensures { λ _. ⌜ now (bytes .exit) ≡ putRecord (now (bytes .entry)) at word ⌝ }
+{
+    let start = RECORD_BYTES * at;
+    bytes[start] = (word % 256) as u8;
+    bytes[start + 1] = (word / 256 % 256) as u8;
+    bytes[start + 2] = (word / 65536 % 256) as u8;
+    bytes[start + 3] = (word / 16777216 % 256) as u8;
+    bytes[start + 4] = word.count_ones() as u8;
 }
