@@ -3,7 +3,7 @@ ghost use denote.Ref.{now};
 ghost use mathlib.Core.Path.{_≡_};
 ghost use mathlib.Core.List.{[], reverse};
 ghost use lib.ListN.{replicate};
-ghost use Rattle.backends.specs.Small.{SmallHolds, SmallPopped, SmallWrote, smallPlaces, smallRoom};
+ghost use Rattle.backends.specs.Small.{SmallCount, SmallFree, SmallHolds, SmallLast, SmallPopped, SmallWrote, smallPlaces, smallRoom};
 use super::SmallStore;
 use crate::fault::ReadFault;
 use crate::traits::BoundedReadWords;
@@ -31,6 +31,31 @@ impl SmallStore {
             len: 0,
         }
     }
+
+    // How many words are held.
+    fn held(&self) -> usize
+        ensures { λ r. ⌜ SmallCount (now (self .entry)) r ⌝ }
+    {
+        self.len
+    }
+
+    // The slot for one more word.
+    fn free(&self) -> Option<usize>
+        ensures { λ r. ⌜ SmallFree (now (self .entry)) r ⌝ }
+    {
+        if self.len < 8 { Some(self.len) } else { None }
+    }
+
+    // The slot of the newest word.
+    fn last(&self) -> Option<usize>
+        ensures { λ r. ⌜ SmallLast (now (self .entry)) r ⌝ }
+    {
+        if self.len == 0 {
+            None
+        } else {
+            Some(self.len - 1)
+        }
+    }
 }
 
 pub impl WriteWords<u64> for SmallStore as SmallWrite {
@@ -41,12 +66,11 @@ pub impl WriteWords<u64> for SmallStore as SmallWrite {
     ghost writes = { SmallWrote };
 
     fn write(&mut self, word: u64) -> Result<(), BoundedWriteError> {
-        let len = self.len;
-        if len >= 8 {
+        let Some(at) = self.free() else {
             return Err(BoundedWriteError::OutOfSpace);
-        }
-        self.words[len] = word;
-        self.len = len + 1;
+        };
+        self.words[at] = word;
+        self.len = at + 1;
         Ok(())
     }
 }
@@ -57,24 +81,23 @@ pub impl ReadWords<u64, Stack> for SmallStore as SmallStack {
     ghost reads = { SmallPopped };
 
     fn read(&mut self) -> Result<Option<u64>, ReadFault> {
-        let len = self.len;
-        if len == 0 {
+        let Some(at) = self.last() else {
             return Ok(None);
-        }
-        self.len = len - 1;
-        Ok(Some(self.words[len - 1]))
+        };
+        self.len = at;
+        Ok(Some(self.words[at]))
     }
 }
 
 pub impl BoundedReadWords<u64, Stack> for SmallStore as SmallStackBound {
     fn remaining(&self) -> usize {
-        self.len
+        self.held()
     }
 }
 
 pub impl BoundedWriteWords<u64> for SmallStore as SmallSpace {
     fn space_left(&self) -> usize {
-        8 - self.len
+        8 - self.held()
     }
 }
 
