@@ -5,10 +5,12 @@ ghost use mathlib.Core.List.{[], reverse};
 ghost use lib.ListN.{length};
 ghost use Rattle.records.specs.Faults.{RecordsPlaced};
 ghost use Rattle.records.specs.Readers.{ReaderPopped, ReaderTook, readerQueue, readerStack};
+use super::record::Taken;
 use super::record::check_records;
 use super::record::count;
-use super::record::record_at;
-use super::record::standing;
+use super::record::held;
+use super::record::newest;
+use super::record::next;
 use backends::fault::ReadFault;
 use backends::traits::BoundedReadWords;
 use backends::traits::Queue;
@@ -49,15 +51,12 @@ pub impl<'a> ReadWords<u32, Stack> for Records<'a> as RecordsStack {
     ghost reads = { ReaderPopped };
 
     fn read(&mut self) -> Result<Option<u32>, ReadFault> {
-        let at = standing(self.bytes.len(), self.pos);
-        if at == 0 {
-            return Ok(None);
-        }
-        match record_at(self.bytes, at - 1) {
-            Ok(word) => {
-                self.pos = at - 1;
+        match newest(self.bytes, self.pos) {
+            Ok(Some(Taken { word, pos })) => {
+                self.pos = pos;
                 Ok(Some(word))
             }
+            Ok(None) => Ok(None),
             Err(fault) => Err(fault),
         }
     }
@@ -69,15 +68,12 @@ pub impl<'a> ReadWords<u32, Queue> for Records<'a> as RecordsQueue {
     ghost reads = { ReaderTook };
 
     fn read(&mut self) -> Result<Option<u32>, ReadFault> {
-        let at = standing(self.bytes.len(), self.pos);
-        if at >= count(self.bytes.len()) {
-            return Ok(None);
-        }
-        match record_at(self.bytes, at) {
-            Ok(word) => {
-                self.pos = at + 1;
+        match next(self.bytes, self.pos) {
+            Ok(Some(Taken { word, pos })) => {
+                self.pos = pos;
                 Ok(Some(word))
             }
+            Ok(None) => Ok(None),
             Err(fault) => Err(fault),
         }
     }
@@ -85,13 +81,13 @@ pub impl<'a> ReadWords<u32, Queue> for Records<'a> as RecordsQueue {
 
 pub impl<'a> BoundedReadWords<u32, Stack> for Records<'a> as RecordsStackBound {
     fn remaining(&self) -> usize {
-        standing(self.bytes.len(), self.pos)
+        held(self.bytes, self.pos)
     }
 }
 
 pub impl<'a> BoundedReadWords<u32, Queue> for Records<'a> as RecordsQueueBound {
     fn remaining(&self) -> usize {
-        count(self.bytes.len()) - standing(self.bytes.len(), self.pos)
+        count(self.bytes.len()) - held(self.bytes, self.pos)
     }
 }
 

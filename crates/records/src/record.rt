@@ -4,7 +4,8 @@ ghost use Prim.Native.Nat.{_+_, _*_, _/_, _^_, _≤_, min};
 ghost use mathlib.Core.Path.{_≡_};
 ghost use lib.ListN.{length};
 ghost use Rattle.records.specs.Faults.{RecordsChecked};
-ghost use Rattle.records.specs.Records.{RecordRead, placeAt, putRecord};
+ghost use Rattle.records.specs.Records.{RecordFree, RecordRead, RecordsHeld, placeAt, putRecord};
+ghost use Rattle.records.specs.Reads.{NewestRead, NextRead};
 use super::fault::RecordError;
 use backends::cursor::MOST_PLACES;
 use backends::fault::ReadFault;
@@ -25,6 +26,12 @@ pub fn check_records(len: usize, pos: usize) -> Result<(), RecordError>
     Ok(())
 }
 
+// A word that is read, and the record number once it is taken.
+pub(crate) struct Taken {
+    pub(crate) word: u32,
+    pub(crate) pos: usize,
+}
+
 // As many records of so many bytes as can be places.
 pub(crate) fn count(len: usize) -> usize
     ensures { λ r. ⌜ r ≡ min (2 ^ 56) (len / 5) ⌝ }
@@ -32,11 +39,50 @@ pub(crate) fn count(len: usize) -> usize
     MOST_PLACES.min(len / RECORD_BYTES)
 }
 
-// The record number, as it counts.
-pub(crate) fn standing(len: usize, pos: usize) -> usize
-    ensures { λ r. ⌜ r ≡ min pos (min (2 ^ 56) (len / 5)) ⌝ }
+// How many records stand before the record number.
+pub(crate) fn held(bytes: &[u8], pos: usize) -> usize
+    ensures { λ r. ⌜ RecordsHeld (now (bytes .entry)) pos r ⌝ }
 {
-    pos.min(count(len))
+    pos.min(count(bytes.len()))
+}
+
+// The record number for one more word.
+pub(crate) fn free(bytes: &[u8], pos: usize) -> Option<usize>
+    ensures { λ r. ⌜ RecordFree (now (bytes .entry)) pos r ⌝ }
+{
+    let at = held(bytes, pos);
+    if at < count(bytes.len()) {
+        return Some(at);
+    }
+    None
+}
+
+// The newest word before the record number.
+pub(crate) fn newest(bytes: &[u8], pos: usize) -> Result<Option<Taken>, ReadFault>
+    ensures { λ r. ⌜ NewestRead (now (bytes .entry)) pos r ⌝ }
+{
+    let at = held(bytes, pos);
+    if at == 0 {
+        return Ok(None);
+    }
+    match record_at(bytes, at - 1) {
+        Ok(word) => Ok(Some(Taken { word, pos: at - 1 })),
+        Err(fault) => Err(fault),
+    }
+}
+
+// The next word from the record number on.
+pub(crate) fn next(bytes: &[u8], pos: usize) -> Result<Option<Taken>, ReadFault>
+    ensures { λ r. ⌜ NextRead (now (bytes .entry)) pos r ⌝ }
+{
+    let at = held(bytes, pos);
+    if at >= count(bytes.len()) {
+        return Ok(None);
+    }
+    match record_at(bytes, at) {
+        Ok(word) => Ok(Some(Taken { word, pos: at + 1 })),
+        Err(fault) => Err(fault),
+    }
 }
 
 // The word of a record that the bytes have, or the fault that it is.

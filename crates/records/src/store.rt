@@ -1,17 +1,20 @@
 // Byte records that are read and written, over lent bytes.
 ghost use denote.Ref.{name, now};
-ghost use Prim.Native.Nat.{_+_, _*_, _≤_};
 ghost use mathlib.Core.Path.{_≡_};
 ghost use mathlib.Core.List.{[], reverse};
 ghost use lib.ListN.{length};
 ghost use Rattle.records.specs.Faults.{RecordsPlaced};
-ghost use Rattle.records.specs.Records.{RecordRead, placeAt};
+ghost use Rattle.records.specs.Reads.{NewestRead, NextRead};
+ghost use Rattle.records.specs.Records.{RecordFree};
 ghost use Rattle.records.specs.Written.{StorePopped, StoreTook, StoreWrote, storeQueue, storeRoom, storeStack};
+use super::record::Taken;
 use super::record::check_records;
 use super::record::count;
+use super::record::free;
+use super::record::held;
+use super::record::newest;
+use super::record::next;
 use super::record::put_record;
-use super::record::record_at;
-use super::record::standing;
 use backends::fault::ReadFault;
 use backends::traits::BoundedReadWords;
 use backends::traits::BoundedWriteWords;
@@ -61,12 +64,25 @@ impl<'a> RecordStore<'a> {
         (bytes, pos)
     }
 
-    // The word of a record that there is, or the fault that it is.
-    fn record(&self, at: usize) -> Result<u32, ReadFault>
-        requires { ⌜ 5 * at + 5 ≤ length (now (now self .bytes)) ⌝ }
-        ensures { λ r. ⌜ RecordRead (placeAt (now (now (self .entry) .bytes)) at) r ⌝ }
+    // The record number for one more word.
+    fn free(&self) -> Option<usize>
+        ensures { λ r. ⌜ RecordFree (now (now (self .entry) .bytes)) (now (self .entry) .pos) r ⌝ }
     {
-        record_at(self.bytes, at)
+        free(self.bytes, self.pos)
+    }
+
+    // The newest word.
+    fn newest(&self) -> Result<Option<Taken>, ReadFault>
+        ensures { λ r. ⌜ NewestRead (now (now (self .entry) .bytes)) (now (self .entry) .pos) r ⌝ }
+    {
+        newest(self.bytes, self.pos)
+    }
+
+    // The next word.
+    fn next(&self) -> Result<Option<Taken>, ReadFault>
+        ensures { λ r. ⌜ NextRead (now (now (self .entry) .bytes)) (now (self .entry) .pos) r ⌝ }
+    {
+        next(self.bytes, self.pos)
     }
 }
 
@@ -78,10 +94,9 @@ pub impl<'a> WriteWords<u32> for RecordStore<'a> as RecordWrite {
     ghost writes = { StoreWrote };
 
     fn write(&mut self, word: u32) -> Result<(), BoundedWriteError> {
-        let at = standing(self.bytes.len(), self.pos);
-        if at >= count(self.bytes.len()) {
+        let Some(at) = self.free() else {
             return Err(BoundedWriteError::OutOfSpace);
-        }
+        };
         put_record(self.bytes, at, word);
         self.pos = at + 1;
         Ok(())
@@ -94,15 +109,12 @@ pub impl<'a> ReadWords<u32, Stack> for RecordStore<'a> as RecordStack {
     ghost reads = { StorePopped };
 
     fn read(&mut self) -> Result<Option<u32>, ReadFault> {
-        let at = standing(self.bytes.len(), self.pos);
-        if at == 0 {
-            return Ok(None);
-        }
-        match self.record(at - 1) {
-            Ok(word) => {
-                self.pos = at - 1;
+        match self.newest() {
+            Ok(Some(Taken { word, pos })) => {
+                self.pos = pos;
                 Ok(Some(word))
             }
+            Ok(None) => Ok(None),
             Err(fault) => Err(fault),
         }
     }
@@ -114,15 +126,12 @@ pub impl<'a> ReadWords<u32, Queue> for RecordStore<'a> as RecordQueue {
     ghost reads = { StoreTook };
 
     fn read(&mut self) -> Result<Option<u32>, ReadFault> {
-        let at = standing(self.bytes.len(), self.pos);
-        if at >= count(self.bytes.len()) {
-            return Ok(None);
-        }
-        match self.record(at) {
-            Ok(word) => {
-                self.pos = at + 1;
+        match self.next() {
+            Ok(Some(Taken { word, pos })) => {
+                self.pos = pos;
                 Ok(Some(word))
             }
+            Ok(None) => Ok(None),
             Err(fault) => Err(fault),
         }
     }
@@ -130,19 +139,19 @@ pub impl<'a> ReadWords<u32, Queue> for RecordStore<'a> as RecordQueue {
 
 pub impl<'a> BoundedReadWords<u32, Stack> for RecordStore<'a> as RecordStackBound {
     fn remaining(&self) -> usize {
-        standing(self.bytes.len(), self.pos)
+        held(self.bytes, self.pos)
     }
 }
 
 pub impl<'a> BoundedReadWords<u32, Queue> for RecordStore<'a> as RecordQueueBound {
     fn remaining(&self) -> usize {
-        count(self.bytes.len()) - standing(self.bytes.len(), self.pos)
+        count(self.bytes.len()) - held(self.bytes, self.pos)
     }
 }
 
 pub impl<'a> BoundedWriteWords<u32> for RecordStore<'a> as RecordSpace {
     fn space_left(&self) -> usize {
-        count(self.bytes.len()) - standing(self.bytes.len(), self.pos)
+        count(self.bytes.len()) - held(self.bytes, self.pos)
     }
 }
 
