@@ -151,7 +151,8 @@ pub impl<'a> BoundedReadWords<u32, Queue> for RecordStore<'a> as RecordQueueBoun
 
 pub impl<'a> BoundedWriteWords<u32> for RecordStore<'a> as RecordSpace {
     fn space_left(&self) -> usize {
-        count(self.bytes.len()) - held(self.bytes, self.pos)
+        let room = count(self.bytes.len());
+        room - held(self.bytes, self.pos)
     }
 }
 
