@@ -16,7 +16,7 @@ use Rattle.model.specs.Cells.{Place, word, fault}
 use Rattle.backends.specs.declared.fault.ReadFault.{ReadFault}
 use Rattle.backends.specs.Slices.{front, rest}
 
--- the word in the first four bytes of record i
+-- the word in the first four bytes of record i (bytes are below 256, so the remainder is the number itself)
 abbrev pub wordIn : List ℕ → ℕ → ℕ
 wordIn bytes i = numberAt bytes (5 * i) % 2 ^ 32
 

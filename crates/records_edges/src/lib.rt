@@ -52,21 +52,34 @@ mod tests {
         check_eq(bytes, &[1, 0, 0, 0, 1, 0xA7, 7, 0, 0, 8])
     }
 
-    // A fifth byte that is one too low or too high.
+    // Faults in the first place and in the last: a fifth byte that is one too low or too high.
     #[test]
-    fn faults_stay() -> Result<(), Fail> {
+    fn faults_at_the_ends() -> Result<(), Fail> {
         let bytes = [1, 0, 0, 0, 0, 1, 0, 0, 0, 1, 0xFF, 0xFF, 0xFF, 0xFF, 33];
         let mut first = Records::new_at_pos(&bytes, 0);
         check_eq(RecordsQueue::read(&mut first), Err(ReadFault { place: 0 }))?;
-        let mut between = Records::new_at_pos(&bytes, 2);
-        check_eq(RecordsStack::read(&mut between), Ok(Some(1)))?;
-        check_eq(
-            RecordsStack::read(&mut between),
-            Err(ReadFault { place: 0 }),
-        )?;
         let mut last = Records::new_at_pos(&bytes, 3);
         check_eq(RecordsStack::read(&mut last), Err(ReadFault { place: 2 }))?;
         check_eq(RecordsQueue::read(&mut last), Ok(None))
+    }
+
+    // A fault between two words is told again and again.
+    #[test]
+    fn a_fault_between() -> Result<(), Fail> {
+        let bytes = [1, 0, 0, 0, 1, 0xA7, 7, 0, 0, 7, 0, 0, 0, 0, 0];
+        let mut records = Records::new_at_pos(&bytes, 3);
+        check_eq(RecordsStack::read(&mut records), Ok(Some(0)))?;
+        check_eq(
+            RecordsStack::read(&mut records),
+            Err(ReadFault { place: 1 }),
+        )?;
+        check_eq(
+            RecordsStack::read(&mut records),
+            Err(ReadFault { place: 1 }),
+        )?;
+        let mut before = Records::new_at_pos(&bytes, 1);
+        check_eq(RecordsStack::read(&mut before), Ok(Some(1)))?;
+        check_eq(RecordsStack::read(&mut before), Ok(None))
     }
 
     // No bytes at all, and bytes that are refused.
