@@ -10,6 +10,8 @@ ghost use Rattle.backends.specs.Cursors.{Checked, CursorPopped, CursorTook, Cu
 
 mod calls;
 
+pub use calls::CursorPos;
+pub use calls::CursorSeek;
 use super::fault::ReadFault;
 use super::fault::SeekError;
 use super::traits::BoundedReadWords;

@@ -3,4 +3,5 @@ pub mod cursor;
 pub mod fault;
 pub mod generic;
 pub mod reverse;
+pub mod small;
 pub mod traits;

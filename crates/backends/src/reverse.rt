@@ -10,11 +10,14 @@ use super::cursor::Cursor;
 use super::cursor::CursorQueue;
 use super::cursor::CursorQueueSource;
 use super::fault::ReadFault;
+use super::fault::SeekError;
 use super::traits::BoundedReadWords;
 use super::traits::BoundedWriteWords;
+use super::traits::Pos;
 use super::traits::Queue;
 use super::traits::QueueSemantics;
 use super::traits::ReadWords;
+use super::traits::Seek;
 use super::traits::Stack;
 use super::traits::StackSemantics;
 use super::traits::WordSink;
@@ -98,6 +101,25 @@ pub impl<'a, W: Word> BoundedWriteWords<W> for Reverse<Cursor<'a, W>> as Reverse
 pub impl<'a, W: Word> WordSink<W> for Reverse<Cursor<'a, W>> as ReverseCursorSink {}
 
 pub impl<'a, W: Word> WordStack<W> for Reverse<Cursor<'a, W>> as ReverseCursorStack {}
+
+// The position is the wrapped store's.
+pub impl<B: Pos> Pos for Reverse<B> as ReversePos {
+    ghost stands = { λ s. B·Pos .stands (s .0) };
+
+    ghost ends = { λ s. B·Pos .ends (s .0) };
+
+    fn pos(&self) -> usize {
+        self.0.pos()
+    }
+}
+
+pub impl<B: Seek> Seek for Reverse<B> as ReverseSeek {
+    ghost seeks = { λ s p r t. B·Seek .seeks (s .0) p r (t .0) };
+
+    fn seek(&mut self, pos: usize) -> Result<(), SeekError> {
+        self.0.seek(pos)
+    }
+}
 
 impl<'a, W: Word> Cursor<'a, W> {
     // The same store, in the slice turned end for end.

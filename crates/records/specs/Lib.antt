@@ -1,0 +1,5 @@
+pub mod Faults
+pub mod Readers
+pub mod Reads
+pub mod Records
+pub mod Written
