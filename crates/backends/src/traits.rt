@@ -22,9 +22,11 @@ use words::fault::BoundedWriteError;
 pub trait Semantics {}
 
 // Newest word first.
+#[derive(Clone, Copy)]
 pub struct Stack;
 
 // Oldest word first.
+#[derive(Clone, Copy)]
 pub struct Queue;
 
 pub impl Semantics for Stack as StackSemantics {}

@@ -29,6 +29,7 @@ mod tests {
     use backends::reverse::ReverseStackSource;
     use backends::traits::BoundedWriteWords;
     use backends::traits::Pos;
+    use backends::traits::Queue;
     use backends::traits::Seek;
     use backends::traits::StackSemantics;
     use backends::traits::WriteWords;
@@ -133,6 +134,7 @@ mod tests {
 
     #[test]
     fn the_newest_of_a_reversed_cursor_is_replaced() -> Result<(), Fail> {
+        let _ = Queue;
         let mut slots = [1u8, 2, 3];
         let mut r = Reverse(Cursor::new_at_pos(&mut slots, 1));
         check_eq(replace_newest(&mut r, 8), Ok(Some(2)))?;
