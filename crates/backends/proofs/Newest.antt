@@ -11,7 +11,7 @@ use Rattle.std.specs.declared.result.Result.the-variants.{Ok, Err}
 use Rattle.model.specs.Cells.{Place, word, fault}
 use Rattle.model.specs.Refusals.{Answer}
 use Rattle.model.specs.Stores.{SourceRead, StackRead, StackWritten}
-use Rattle.backends.specs.Chains.{Replaced}
+use Rattle.backends.specs.Chains.{Taken}
 
 turned-back : {A : Type 0} (xs ys : List A) (x : A) → reverse xs ≡ x ∷ ys → xs ≡ reverse ys ++ (x ∷ [])
 turned-back xs ys x e = sym (reverse-reverse xs) ∙ ap reverse e ∙ reverse-cons x ys
@@ -30,11 +30,15 @@ pub read-of : (ps ps′ cs cs′ : List Place) (a : Answer (Option ℕ)) → cs 
 read-of ps ps′ cs cs′ a e h r = stack-read ps ps′ a (subst (λ x. SourceRead (reverse ps) a x) h (subst (λ x. SourceRead x a cs′) e r))
 
 -- what was taken leaves room
-pub room-left : (ps ps′ : List Place) (n c : ℕ) → length ps ≤ c → StackRead ps (Ok (Some n)) ps′ → length ps′ < c
-room-left ps ps′ n c le e =
-    let l = ap length e ∙ length-append ps′ (word n ∷ []) in
-    omega arith
+leaves-room : (ps ps′ : List Place) (c : ℕ) (a : Answer (Option ℕ)) → length ps ≤ c → StackRead ps a ps′ → Taken c ps a ps′
+leaves-room ps ps′ c (Ok (Some n)) le e = let l = ap length e ∙ length-append ps′ (word n ∷ []) in (e, omega arith)
+leaves-room ps ps′ c (Ok None) le e = e
+leaves-room ps ps′ c (Err w) le e = e
 
-pub replaced : (ps mid ps′ : List Place) (n old c : ℕ) (r : Answer (Unit {0})) → StackRead ps (Ok (Some old)) mid → length mid < c → StackWritten c mid n r ps′ → Replaced ps n (Ok (Some old)) ps′
-replaced ps mid ps′ n old c (Ok _) e lt (_, h) = (mid, e, h)
-replaced ps mid ps′ n old c (Err w) e lt (full, _, _) = absurd (omega arith)
+pub taken : (ps ps′ cs cs′ : List Place) (c : ℕ) (a : Answer (Option ℕ)) → cs ≡ reverse ps → cs′ ≡ reverse ps′ → length ps ≤ c → SourceRead cs a cs′ → Taken c ps a ps′
+taken ps ps′ cs cs′ c a e h le r = leaves-room ps ps′ c a le (read-of ps ps′ cs cs′ a e h r)
+
+-- where there is room a word is written
+pub put : (ps ps′ : List Place) (n c : ℕ) (r : Answer (Unit {0})) → length ps < c → StackWritten c ps n r ps′ → ps′ ≡ ps ++ (word n ∷ [])
+put ps ps′ n c (Ok _) lt (_, h) = h
+put ps ps′ n c (Err w) lt (full, _, _) = absurd (omega arith)

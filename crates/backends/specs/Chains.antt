@@ -22,6 +22,12 @@ abbrev pub Extended : ℕ → List Place → List Place → Answer (Unit {0}) �
 Extended capacity ps more (Ok _) ps′ = (length ps + length more ≤ capacity) × (ps′ ≡ ps ++ more)
 Extended capacity ps more (Err e) ps′ = (capacity < length ps + length more) × (e ≡ Full) × (ps′ ≡ ps ++ take (capacity - length ps) more)
 
+-- The newest word is taken, and leaves room; none where there is no place; or refused where the newest place is a fault, without effect.
+abbrev pub Taken : ℕ → List Place → Answer (Option ℕ) → List Place → Type 0
+Taken capacity ps (Ok (Some old)) ps′ = (ps ≡ ps′ ++ (word old ∷ [])) × (length ps′ < capacity)
+Taken capacity ps (Ok None) ps′ = (ps ≡ []) × (ps′ ≡ [])
+Taken capacity ps (Err e) ps′ = (k : ℕ) × (front : List Place) × (ps ≡ front ++ (fault k ∷ [])) × (e ≡ BadRecord k) × (ps′ ≡ ps)
+
 -- The newest word is replaced, and answered; nothing where there is no place; or refused where the newest place is a fault, without effect.
 abbrev pub Replaced : List Place → ℕ → Answer (Option ℕ) → List Place → Type 0
 Replaced ps n (Ok (Some old)) ps′ = (front : List Place) × (ps ≡ front ++ (word old ∷ [])) × (ps′ ≡ front ++ (word n ∷ []))

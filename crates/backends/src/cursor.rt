@@ -10,8 +10,6 @@ ghost use Rattle.backends.specs.Cursors.{Checked, CursorPopped, CursorTook, Cu
 
 mod calls;
 
-pub use calls::CursorPos;
-pub use calls::CursorSeek;
 use super::fault::ReadFault;
 use super::fault::SeekError;
 use super::traits::BoundedReadWords;
@@ -25,6 +23,8 @@ use super::traits::WordSink;
 use super::traits::WordSource;
 use super::traits::WordStack;
 use super::traits::WriteWords;
+pub use calls::CursorPos;
+pub use calls::CursorSeek;
 use words::Word;
 use words::fault::BoundedWriteError;
 

@@ -1,12 +1,13 @@
 // Calls over any store.
 ghost use denote.Ref.{now};
 ghost use mathlib.Core.Path.{_≡_};
-ghost use mathlib.Core.List.{map};
+ghost use Prim.Native.Nat.{_<_};
+ghost use mathlib.Core.List.{[], _++_, _∷_, map};
 ghost use lib.Dec.{eqb};
 ghost use lib.ListN.{length};
 ghost use Rattle.model.specs.Stores.{valued};
 ghost use Rattle.backends.specs.Answers.{toldRead, toldWrite};
-ghost use Rattle.backends.specs.Chains.{Extended, Replaced, WroteAll};
+ghost use Rattle.backends.specs.Chains.{Extended, Replaced, Taken, WroteAll};
 ghost use Rattle.backends.specs.Cursors.{wordAt};
 use super::fault::ReadFault;
 use super::traits::BoundedReadWords;
@@ -42,6 +43,15 @@ pub fn extend_from_iter<W: Word, B: WordSink<W>>(
     ensures places { λ r. ⌜ Extended (B·WriteWords .capacity (now (store .entry))) (B·WriteWords .places (now (store .entry))) (map (wordAt (W·Word .value)) (now (words .entry))) (toldWrite r) (B·WriteWords .places (now (store .exit))) ⌝ }
     ensures same { λ _. ⌜ B·WriteWords .capacity (now (store .exit)) ≡ B·WriteWords .capacity (now (store .entry)) ⌝ }
 {
+    write_all(store, words)
+}
+
+// The loop of it.
+fn write_all<W: Word, B: WordSink<W>>(store: &mut B, words: &[W]) -> Result<(), BoundedWriteError>
+    ensures calls { λ r. ⌜ WroteAll (B·WriteWords .writes) (now (store .entry)) (now (words .entry)) (toldWrite r) (now (store .exit)) ⌝ }
+    ensures places { λ r. ⌜ Extended (B·WriteWords .capacity (now (store .entry))) (B·WriteWords .places (now (store .entry))) (map (wordAt (W·Word .value)) (now (words .entry))) (toldWrite r) (B·WriteWords .places (now (store .exit))) ⌝ }
+    ensures same { λ _. ⌜ B·WriteWords .capacity (now (store .exit)) ≡ B·WriteWords .capacity (now (store .entry)) ⌝ }
+{
     for word in words {
         store.write(*word)?;
     }
@@ -56,9 +66,29 @@ pub fn replace_newest<W: Word, B: WordStack<W>>(
     ensures places { λ r. ⌜ Replaced (B·WriteWords .places (now (store .entry))) (W·Word .value word) (valued (W·Word .value) (toldRead r)) (B·WriteWords .places (now (store .exit))) ⌝ }
     ensures same { λ _. ⌜ B·WriteWords .capacity (now (store .exit)) ≡ B·WriteWords .capacity (now (store .entry)) ⌝ }
 {
-    let Some(old) = store.read()? else {
-        return Ok(None);
-    };
+    match take_newest(store) {
+        Ok(Some(old)) => {
+            put_newest(store, word);
+            Ok(Some(old))
+        }
+        Ok(None) => Ok(None),
+        Err(fault) => Err(fault),
+    }
+}
+
+// The newest word, by the places; where there is one, it leaves room.
+fn take_newest<W: Word, B: WordStack<W>>(store: &mut B) -> Result<Option<W>, ReadFault>
+    ensures places { λ r. ⌜ Taken (B·WriteWords .capacity (now (store .entry))) (B·WriteWords .places (now (store .entry))) (valued (W·Word .value) (toldRead r)) (B·WriteWords .places (now (store .exit))) ⌝ }
+    ensures same { λ _. ⌜ B·WriteWords .capacity (now (store .exit)) ≡ B·WriteWords .capacity (now (store .entry)) ⌝ }
+{
+    store.read()
+}
+
+// One word more, where there is room for it.
+fn put_newest<W: Word, B: WordStack<W>>(store: &mut B, word: W)
+    requires { ⌜ length (B·WriteWords .places (now store)) < B·WriteWords .capacity (now store) ⌝ }
+    ensures places { λ _. ⌜ B·WriteWords .places (now (store .exit)) ≡ B·WriteWords .places (now (store .entry)) ++ (wordAt (W·Word .value) word ∷ []) ⌝ }
+    ensures same { λ _. ⌜ B·WriteWords .capacity (now (store .exit)) ≡ B·WriteWords .capacity (now (store .entry)) ⌝ }
+{
     let _ = store.write(word);
-    Ok(Some(old))
 }

@@ -4,9 +4,11 @@ mod tests {
     use backends::fault::ReadFault;
     use backends::fault::ReadFaultDebug;
     use backends::fault::ReadFaultPartialEq;
+    use backends::generic::replace_newest;
     use backends::small::SmallSpace;
     use backends::small::SmallStack;
     use backends::small::SmallStore;
+    use backends::small::SmallWordStack;
     use backends::small::SmallWrite;
     use backends::traits::BoundedReadWords;
     use backends::traits::BoundedWriteWords;
@@ -22,8 +24,11 @@ mod tests {
     use records::store::RecordSpace;
     use records::store::RecordStack;
     use records::store::RecordStore;
+    use records::store::RecordWordStack;
     use records::store::RecordWrite;
     use std::test::*;
+    use words::U32Word;
+    use words::U64Word;
     use words::fault::BoundedWriteError;
     use words::fault::BoundedWriteErrorDebug;
     use words::fault::BoundedWriteErrorPartialEq;
@@ -106,5 +111,21 @@ mod tests {
         check_eq(store.write(8), Ok(()))?;
         check_eq(store.write(9), Err(BoundedWriteError::OutOfSpace))?;
         check_eq(store.read(), Ok(Some(8)))
+    }
+
+    // One call over any word stack, at the two stores here.
+    #[test]
+    fn the_newest_is_replaced() -> Result<(), Fail> {
+        let mut small = SmallStore::new();
+        check_eq(replace_newest(&mut small, 5), Ok(None))?;
+        check_eq(small.write(4), Ok(()))?;
+        check_eq(replace_newest(&mut small, 5), Ok(Some(4)))?;
+        check_eq(small.read(), Ok(Some(5)))?;
+        let mut bytes = [1, 0, 0, 0, 1, 1, 0, 0, 0, 2];
+        let mut good = RecordStore::new_at_pos(&mut bytes, 1);
+        check_eq(replace_newest(&mut good, 3), Ok(Some(1)))?;
+        check_eq(RecordStack::read(&mut good), Ok(Some(3)))?;
+        let mut bad = RecordStore::new_at_pos(&mut bytes, 2);
+        check_eq(replace_newest(&mut bad, 3), Err(ReadFault { place: 1 }))
     }
 }

@@ -105,7 +105,10 @@ mod tests {
         let mut c = Cursor::new_at_write_beginning(&mut slots);
         check_eq(extend_from_iter(&mut c, &[5, 6]), Ok(()))?;
         check_eq(c.space_left(), 1)?;
-        check_eq(extend_from_iter(&mut c, &[7, 8]), Err(BoundedWriteError::OutOfSpace))?;
+        check_eq(
+            extend_from_iter(&mut c, &[7, 8]),
+            Err(BoundedWriteError::OutOfSpace),
+        )?;
         check_eq(c.space_left(), 0)?;
         check_eq(CursorStack::read(&mut c), Ok(Some(7)))?;
         check_eq(replace_newest(&mut c, 9), Ok(Some(6)))?;

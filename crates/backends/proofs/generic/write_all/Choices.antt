@@ -1,6 +1,6 @@
 use Rattle.backends.specs.Cursors.{wordAt}
 use Rattle.backends.proofs.Extending.{Written}
-use Rattle.backends.proofs.generic.extend_from_iter.Given as given
+use Rattle.backends.proofs.generic.write_all.Given as given
 
 abbrev pub Inv-loop-word : given.InvT-loop-word
 Inv-loop-word g l =

@@ -6,7 +6,7 @@ use Rattle.words.specs.Answers.{writeRefusal}
 use Rattle.words.specs.declared.fault.BoundedWriteError.the-variants.{OutOfSpace}
 use Rattle.backends.specs.Cursors.{wordAt}
 use Rattle.backends.proofs.Extending.{one-more, refused, no-room, all-written}
-use Rattle.backends.proofs.generic.extend_from_iter.Needs as need
+use Rattle.backends.proofs.generic.write_all.Needs as need
 
 pub returns-in-Break-write : need.returns-in-Break-write
 returns-in-Break-write g c =
