@@ -67,10 +67,13 @@ abbrev pub Checked : ℕ → ℕ → Result (Unit {0}) SeekError → Type 0
 Checked size pos (Ok _) = Placed size pos
 Checked size pos (Err e) = Placed size pos → ⊥
 
--- An opened cursor: the lent slice of this name and these elements, at the position; or an empty one at 0, where no cursor can stand there.
+-- An opened cursor: the lent slice of this name and these elements, at the position, with the slice's length for its capacity; or an
+-- empty one at 0, which takes nothing, where no cursor can stand there.
 pub record OpenedAt {W : Type 0} (lender : ℕ) (elements : List W) (pos : ℕ) (c : Cursor W) : Type 0 where
   pub opened : Placed (length elements) pos → (name (c .buf) ≡ lender) × (now (c .buf) ≡ elements) × (c .pos ≡ pos)
+  pub room : Placed (length elements) pos → roomOf c ≡ length elements
   pub empty : (Placed (length elements) pos → ⊥) → (now (c .buf) ≡ []) × (c .pos ≡ 0)
+  pub takes-nothing : (Placed (length elements) pos → ⊥) → roomOf c ≡ 0
 
 -- The position moves, and nothing else changes; refused past the end of the slice, and nothing changes.
 abbrev pub Sought : {W : Type 0} → Cursor W → ℕ → Result (Unit {0}) SeekError → Cursor W → Type 0

@@ -1,7 +1,8 @@
 -- Byte records that are read and written.
 use mathlib.Core.Path.{_≡_}
-use mathlib.Core.List.{List}
-use Prim.Native.Nat.{ℕ, _+_, _-_}
+use mathlib.Core.List.{List, []}
+use Prim.Native.Nat.{ℕ, _+_, _-_, _/_}
+use lib.ListN.{length}
 use denote.Ref.{name, now}
 use Rattle.std.specs.declared.option.Option.{Option}
 use Rattle.std.specs.declared.option.Option.the-variants.{Some, None}
@@ -9,6 +10,7 @@ use Rattle.std.specs.declared.result.Result.the-variants.{Ok, Err}
 use Rattle.model.specs.Cells.{Place}
 use Rattle.model.specs.Refusals.{Answer}
 use Rattle.records.specs.declared.store.RecordStore.{RecordStore}
+use Rattle.records.specs.Faults.{RecordsPlaced}
 use Rattle.records.specs.Records.{recordStack, recordQueue, recordRoom, recordAt, putRecord}
 
 abbrev pub storeStack : RecordStore → List Place
@@ -47,3 +49,11 @@ abbrev pub StoreTook : RecordStore → Answer (Option ℕ) → RecordStore → T
 StoreTook s (Ok (Some x)) t = StoreHolds s t (now (s .bytes)) (storeAt s + 1)
 StoreTook s (Ok None) t = t ≡ s
 StoreTook s (Err e) t = t ≡ s
+
+-- An opened store: the lent bytes of this name and content, at the record number, with the number of records for its capacity; or an
+-- empty one at 0, which takes nothing, where the check refuses.
+pub record StoreOpened (lender : ℕ) (bytes : List ℕ) (pos : ℕ) (s : RecordStore) : Type 0 where
+  pub opened : RecordsPlaced (length bytes) pos → (name (s .bytes) ≡ lender) × (now (s .bytes) ≡ bytes) × (s .pos ≡ pos)
+  pub room : RecordsPlaced (length bytes) pos → storeRoom s ≡ length bytes / 5
+  pub empty : (RecordsPlaced (length bytes) pos → ⊥) → (now (s .bytes) ≡ []) × (s .pos ≡ 0)
+  pub takes-nothing : (RecordsPlaced (length bytes) pos → ⊥) → storeRoom s ≡ 0

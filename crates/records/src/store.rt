@@ -1,12 +1,11 @@
 // Byte records that are read and written, over lent bytes.
 ghost use denote.Ref.{name, now};
 ghost use mathlib.Core.Path.{_≡_};
-ghost use mathlib.Core.List.{[], reverse};
+ghost use mathlib.Core.List.{reverse};
 ghost use lib.ListN.{length};
-ghost use Rattle.records.specs.Faults.{RecordsPlaced};
 ghost use Rattle.records.specs.Reads.{NewestRead, NextRead};
 ghost use Rattle.records.specs.Records.{RecordFree};
-ghost use Rattle.records.specs.Written.{StorePopped, StoreTook, StoreWrote, storeQueue, storeRoom, storeStack};
+ghost use Rattle.records.specs.Written.{StoreOpened, StorePopped, StoreTook, StoreWrote, storeQueue, storeRoom, storeStack};
 use super::record::Taken;
 use super::record::check_records;
 use super::record::count;
@@ -42,8 +41,7 @@ pub struct RecordStore<'a> {
 impl<'a> RecordStore<'a> {
     // At a record number; over an empty slice where `check_records` refuses.
     pub fn new_at_pos(bytes: &'a mut [u8], pos: usize) -> RecordStore<'a>
-        ensures opened { λ r. ⌜ (RecordsPlaced (length (now (bytes .entry))) pos → (name (r .bytes) ≡ name (bytes .entry)) × (now (r .bytes) ≡ now (bytes .entry)) × (r .pos ≡ pos)) ⌝ }
-        ensures empty { λ r. ⌜ ((RecordsPlaced (length (now (bytes .entry))) pos → ⊥) → (now (r .bytes) ≡ []) × (r .pos ≡ 0)) ⌝ }
+        ensures { λ r. ⌜ StoreOpened (name (bytes .entry)) (now (bytes .entry)) pos r ⌝ }
     {
         if check_records(bytes.len(), pos).is_err() {
             return RecordStore {
