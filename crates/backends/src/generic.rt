@@ -8,7 +8,7 @@ ghost use lib.ListN.{length};
 ghost use Rattle.model.specs.Stores.{valued};
 ghost use Rattle.backends.specs.Answers.{toldRead, toldWrite};
 ghost use Rattle.backends.specs.Chains.{Extended, Replaced, Taken, WroteAll};
-ghost use Rattle.backends.specs.Cursors.{wordAt};
+ghost use Rattle.backends.specs.Slices.{wordAt};
 use super::fault::ReadFault;
 use super::traits::BoundedReadWords;
 use super::traits::BoundedWriteWords;

@@ -18,6 +18,9 @@ use words::PartialWord;
 use words::Word;
 use words::fault::BoundedWriteError;
 
+// As many places as a store can have: 2^56.
+pub const MOST_PLACES: usize = 0x100_0000_0000_0000;
+
 // The order in which a store is read.
 pub trait Semantics {}
 

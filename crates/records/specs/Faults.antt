@@ -5,7 +5,7 @@ use Rattle.std.specs.declared.result.Result.{Result}
 use Rattle.std.specs.declared.result.Result.the-variants.{Ok, Err}
 use Rattle.model.specs.declared.refusal.Refusal.{Refusal}
 use Rattle.model.specs.declared.refusal.Refusal.the-variants as refused
-use Rattle.backends.specs.Cursors.{Placed}
+use Rattle.backends.specs.Slices.{Placed}
 use Rattle.records.specs.declared.fault.RecordError.{RecordError}
 use Rattle.records.specs.declared.fault.RecordError.the-variants.{Ragged, Misplaced}
 

@@ -7,7 +7,7 @@ ghost use Rattle.records.specs.Faults.{RecordsChecked};
 ghost use Rattle.records.specs.Records.{RecordFree, RecordRead, RecordsHeld, placeAt, putRecord};
 ghost use Rattle.records.specs.Reads.{NewestRead, NextRead};
 use super::fault::RecordError;
-use backends::cursor::MOST_PLACES;
+use backends::traits::MOST_PLACES;
 use backends::fault::ReadFault;
 
 // The bytes of a record.

@@ -1,18 +1,18 @@
 // Tests of words, the cursor and the reversed cursor at their edges.
 #[cfg(test)]
 mod tests {
-    use backends::cursor::Cursor;
-    use backends::cursor::CursorPos;
-    use backends::cursor::CursorQueue;
-    use backends::cursor::CursorQueueSource;
-    use backends::cursor::CursorSeek;
-    use backends::cursor::CursorSink;
-    use backends::cursor::CursorSpace;
-    use backends::cursor::CursorStack;
-    use backends::cursor::CursorStackSource;
-    use backends::cursor::CursorWordStack;
-    use backends::cursor::CursorWrite;
-    use backends::cursor::check_pos;
+    use cursors::cursor::Cursor;
+    use cursors::cursor::CursorPos;
+    use cursors::cursor::CursorQueue;
+    use cursors::cursor::CursorQueueSource;
+    use cursors::cursor::CursorSeek;
+    use cursors::cursor::CursorSink;
+    use cursors::cursor::CursorSpace;
+    use cursors::cursor::CursorStack;
+    use cursors::cursor::CursorStackSource;
+    use cursors::cursor::CursorWordStack;
+    use cursors::cursor::CursorWrite;
+    use cursors::cursor::check_pos;
     use backends::fault::ReadFaultDebug;
     use backends::fault::ReadFaultPartialEq;
     use backends::fault::SeekError;
@@ -20,13 +20,13 @@ mod tests {
     use backends::fault::SeekErrorPartialEq;
     use backends::generic::extend_from_iter;
     use backends::generic::replace_newest;
-    use backends::reverse::Reverse;
-    use backends::reverse::ReverseCursorSink;
-    use backends::reverse::ReverseCursorSpace;
-    use backends::reverse::ReverseCursorStack;
-    use backends::reverse::ReverseCursorWrite;
-    use backends::reverse::ReverseStack;
-    use backends::reverse::ReverseStackSource;
+    use cursors::reverse::Reverse;
+    use cursors::reverse::ReverseCursorSink;
+    use cursors::reverse::ReverseCursorSpace;
+    use cursors::reverse::ReverseCursorStack;
+    use cursors::reverse::ReverseCursorWrite;
+    use cursors::reverse::ReverseStack;
+    use cursors::reverse::ReverseStackSource;
     use backends::traits::BoundedWriteWords;
     use backends::traits::Pos;
     use backends::traits::Queue;

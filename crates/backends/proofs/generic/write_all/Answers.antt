@@ -4,7 +4,7 @@ use Rattle.std.specs.declared.result.Result.the-variants.{Err}
 use Rattle.std.proofs.shelf.Results.{err-from-errBy}
 use Rattle.words.specs.Answers.{writeRefusal}
 use Rattle.words.specs.declared.fault.BoundedWriteError.the-variants.{OutOfSpace}
-use Rattle.backends.specs.Cursors.{wordAt}
+use Rattle.backends.specs.Slices.{wordAt}
 use Rattle.backends.proofs.Extending.{one-more, refused, no-room, all-written}
 use Rattle.backends.proofs.generic.write_all.Needs as need
 

@@ -1,4 +1,4 @@
-use Rattle.backends.specs.Cursors.{wordAt}
+use Rattle.backends.specs.Slices.{wordAt}
 use Rattle.backends.proofs.Extending.{Written}
 use Rattle.backends.proofs.generic.write_all.Given as given
 
