@@ -7,8 +7,8 @@ ghost use Rattle.records.specs.Faults.{RecordsChecked};
 ghost use Rattle.records.specs.Records.{RecordFree, RecordRead, RecordsHeld, placeAt, putRecord};
 ghost use Rattle.records.specs.Reads.{NewestRead, NextRead};
 use super::fault::RecordError;
-use backends::traits::MOST_PLACES;
 use backends::fault::ReadFault;
+use backends::traits::MOST_PLACES;
 
 // The bytes of a record.
 pub const RECORD_BYTES: usize = 5;

@@ -1,6 +1,19 @@
 // Tests of words, the cursor and the reversed cursor at their edges.
 #[cfg(test)]
 mod tests {
+    use backends::fault::ReadFaultDebug;
+    use backends::fault::ReadFaultPartialEq;
+    use backends::fault::SeekError;
+    use backends::fault::SeekErrorDebug;
+    use backends::fault::SeekErrorPartialEq;
+    use backends::generic::extend_from_iter;
+    use backends::generic::replace_newest;
+    use backends::traits::BoundedWriteWords;
+    use backends::traits::Pos;
+    use backends::traits::Queue;
+    use backends::traits::Seek;
+    use backends::traits::StackSemantics;
+    use backends::traits::WriteWords;
     use cursors::cursor::Cursor;
     use cursors::cursor::CursorPos;
     use cursors::cursor::CursorQueue;
@@ -13,13 +26,6 @@ mod tests {
     use cursors::cursor::CursorWordStack;
     use cursors::cursor::CursorWrite;
     use cursors::cursor::check_pos;
-    use backends::fault::ReadFaultDebug;
-    use backends::fault::ReadFaultPartialEq;
-    use backends::fault::SeekError;
-    use backends::fault::SeekErrorDebug;
-    use backends::fault::SeekErrorPartialEq;
-    use backends::generic::extend_from_iter;
-    use backends::generic::replace_newest;
     use cursors::reverse::Reverse;
     use cursors::reverse::ReverseCursorSink;
     use cursors::reverse::ReverseCursorSpace;
@@ -27,12 +33,6 @@ mod tests {
     use cursors::reverse::ReverseCursorWrite;
     use cursors::reverse::ReverseStack;
     use cursors::reverse::ReverseStackSource;
-    use backends::traits::BoundedWriteWords;
-    use backends::traits::Pos;
-    use backends::traits::Queue;
-    use backends::traits::Seek;
-    use backends::traits::StackSemantics;
-    use backends::traits::WriteWords;
     use std::test::*;
     use words::Partial8Word;
     use words::Partial32Word;
