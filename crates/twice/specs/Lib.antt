@@ -1,0 +1,3 @@
+pub mod Calls
+pub mod Parts
+pub mod Places
