@@ -137,6 +137,7 @@ mod tests {
 
     #[test]
     fn the_newest_of_a_reversed_cursor_is_replaced() -> Result<(), Fail> {
+        // the borrow checker knows of the type `Queue`, under which the cursor is read here, only where it is named
         let _ = Queue;
         let mut slots = [1u8, 2, 3];
         let mut r = Reverse(Cursor::new_at_pos(&mut slots, 1));
