@@ -1,4 +1,6 @@
 // Streams of symbols, and symbols written and read one after the other.
+#![tactic(auto)]
+
 pub mod decode;
 pub mod encode;
 pub mod traits;

@@ -1,4 +1,6 @@
 // Tests of the codebooks at their edges.
+#![tactic(auto)]
+
 mod text;
 mod written;
 

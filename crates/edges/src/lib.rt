@@ -1,5 +1,7 @@
 // Tests of the link table at its edges: no rows, a full table, equal ends, the least and the greatest node number, unfinished rows. They
 // stand apart, so that the table is not proved once more with them.
+#![tactic(auto)]
+
 #[cfg(test)]
 mod tests {
     use links::answer::*;

@@ -1,4 +1,6 @@
 // The Exp-Golomb code: ue(v) of ITU-T H.264, clause 9.1.
+#![tactic(auto)]
+
 ghost use Rattle.model.specs.Codebooks.{on_symbol};
 ghost use Rattle.model.specs.Golomb.{Clause_9_1, ParsingReadsCodewords, code_at, parse};
 

@@ -1,4 +1,6 @@
 // The program `importer`: rows in, each link once out.
+#![tactic(auto)]
+
 use links::answer::RowsAdded;
 use links::table::LinkTable;
 use std::io;

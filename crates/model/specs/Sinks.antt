@@ -1,5 +1,5 @@
 -- Bit sinks and bit sources: what their calls answer and leave.
-use Rattle.std.specs.Prelude.{◌≡◌, ℕ, ◌-◌, ◌<◌, ◌≤◌, Bool, List, [], ◌∷◌, ◌++◌, reverse, length, take, Some, None, Ok, Err, Option}
+use Rattle.std.specs.Prelude.{◌≡◌, ℕ, ◌+◌, ◌-◌, ◌<◌, ◌≤◌, Bool, List, [], ◌∷◌, ◌++◌, reverse, length, take, Some, None, Ok, Err, Option}
 use Rattle.model.specs.declared.refusal.Refusal.TheVariants.{Full, Unlisted, BadRecord}
 use Rattle.model.specs.Cells.{Cell, bit, bad, bits}
 use Rattle.model.specs.Refusals.{Answer}
@@ -16,11 +16,11 @@ more s = s.limit - length s.taken
 
 -- It took all of v, since there was room for it.
 abbrev pub Took : List Bool → Sink → Sink → Type 0
-Took v s s' = (length v ≤ more s) × (s'.taken ≡ s.taken ++ bits v) × (s'.limit ≡ s.limit)
+Took v s s' = (length s.taken + length v ≤ s.limit) × (s'.taken ≡ s.taken ++ bits v) × (s'.limit ≡ s.limit)
 
 -- There was no room for all of v, and it took just the bits that fit.
 abbrev pub Stopped : List Bool → Sink → Sink → Type 0
-Stopped v s s' = (more s < length v) × (s'.taken ≡ s.taken ++ bits (take (more s) v)) × (s'.limit ≡ s.limit)
+Stopped v s s' = (s.limit < length s.taken + length v) × (s'.taken ≡ s.taken ++ bits (take (more s) v)) × (s'.limit ≡ s.limit)
 
 -- Bits handed to a sink one by one, until it refuses: for one bit, that it refuses exactly at none more, without effect.
 abbrev pub Emitted : List Bool → Sink → Answer (Unit {0}) → Sink → Type 0

@@ -1,5 +1,7 @@
 // The words that the whole library speaks in: refusals, rows and links as types, and, in specs/, what bits, places, coders, codebooks,
 // link sets and runs mean. The contracts of all other crates cite these definitions.
+#![tactic(auto)]
+
 pub mod examples;
 pub mod golomb;
 pub mod histories;

@@ -1,4 +1,6 @@
 // Runs at the edges of the record stores and of the small store.
+#![tactic(auto)]
+
 #[cfg(test)]
 mod tests {
     use backends::fault::ReadFault;

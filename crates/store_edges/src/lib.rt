@@ -1,4 +1,6 @@
 // Tests of words, the cursor and the reversed cursor at their edges.
+#![tactic(auto)]
+
 #[cfg(test)]
 mod tests {
     use backends::fault::SeekError;

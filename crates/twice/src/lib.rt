@@ -1,5 +1,7 @@
 // Words of 8 bits on a medium of which single bytes may go bad: each byte is kept twice, and where the two differ the place is a fault.
 // docs/STORES.md walks through this crate; a store of your own can begin as a copy of it.
+#![tactic(auto)]
+
 ghost use Rattle.std.specs.Prelude.{◌≡◌, ◌+◌, ◌*◌, ◌<◌, reverse, length};
 ghost use Rattle.twice.specs.Calls.{TwiceOpened, TwicePopped, TwiceWrote};
 ghost use Rattle.twice.specs.Parts.{SlotRead, TwiceHeld};

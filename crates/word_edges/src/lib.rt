@@ -1,4 +1,6 @@
 // Tests of words and the cursor at their edges, at each width.
+#![tactic(auto)]
+
 #[cfg(test)]
 mod tests {
     use backends::traits::{BoundedReadWords, BoundedWriteWords, ReadWords, WriteWords};

@@ -10,4 +10,4 @@ write_refusal OutOfSpace = Full
 
 -- what it is shown as
 abbrev pub write_text : BoundedWriteError → List ℕ
-write_text OutOfSpace = codes "Out of space."
+write_text OutOfSpace = codes "Out of space"

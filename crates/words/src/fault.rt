@@ -26,7 +26,7 @@ impl BoundedWriteError {
         ensures { result.now ≡ write_text self }
     {
         match self {
-            BoundedWriteError::OutOfSpace => "Out of space.",
+            BoundedWriteError::OutOfSpace => "Out of space",
         }
     }
 }

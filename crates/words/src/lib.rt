@@ -1,4 +1,6 @@
 // Words of 8, 32 and 64 bits, and partial words, which hold up to a word's number of bits.
+#![tactic(auto)]
+
 ghost use Rattle.std.specs.Prelude.{◌≡◌, ℕ, ◌-◌, ◌/◌, ◌%◌, ◌^◌, ◌<◌, ◌≤◌, Bool, List, [], ◌++◌, length, ◌==◌};
 ghost use Rattle.model.specs.Bits.{low_bits, zeros};
 ghost use Rattle.words.specs.Partials.{IsWord, Masked, NumberWord, PartRead, PartWritten, SealedWord, UnsealedWord, Whole};

@@ -25,8 +25,8 @@ returns c =
       three_bits_seal = given (SealWritten 8 1 one_zero_one) (one.seal 8 1 one_zero_one) (Ok tt) (bytes (0x0D ∷ [])) (omega arith, refl);
       three_bits_unseal = given (SealTaken 8 (bytes (0x0D ∷ []))) (one.unseal 8 (bytes (0x0D ∷ [])) (omega arith)) (Ok tt) one_zero_one (refl, inr (4, omega arith, refl));
       eight_ones_seal = given (SealWritten 8 2 eight_ones) (one.seal 8 2 eight_ones) (Ok tt) (bytes (0xFF ∷ 0x01 ∷ [])) (omega arith, refl);
-      up_to_sixteen = λ h b l. given (BitWritten 8 1 h b) (one.write-bit 8 1 h b) (Ok tt) _ (l, refl);
-      no_seventeenth = λ h b l. given (BitWritten 8 1 h b) (one.write-bit 8 1 h b) (Err Full) h (refl, l, refl);
+      up_to_sixteen = λ h b l. given (BitWritten 8 1 h b) (one.write_bit 8 1 h b) (Ok tt) _ (l, refl);
+      no_seventeenth = λ h b l. given (BitWritten 8 1 h b) (one.write_bit 8 1 h b) (Err Full) h (refl, l, refl);
       seven_seal = λ h l.
           let none : 8 - 1 - length h % 8 ≡ 0 = omega arith in
           given (SealWritten 8 1 h) (one.seal 8 1 h) (Ok tt) _ (omega arith, ap (λ (n : ℕ). h ++ mark n) (sym none));
