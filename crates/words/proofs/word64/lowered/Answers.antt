@@ -3,10 +3,10 @@ use Rattle.words.specs.LowBits.{low_mod}
 use Rattle.words.specs.Parts.{unseal_shifted}
 use Rattle.words.proofs.word64.lowered.Goals as goal
 
-pub invariant-of-result : goal.invariant-of-result
-invariant-of-result c =
+pub invariant_of-result : goal.invariant_of-result
+invariant_of-result c =
     let r = unseal_shifted 64 c.args.word (omega arith) c.requires (omega arith) in
-    (r.single, (r.below, tt))
+    record { single = r.single; below = r.below }
 
 pub returns : goal.returns
 returns c =

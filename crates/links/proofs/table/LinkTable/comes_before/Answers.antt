@@ -12,4 +12,4 @@ returns c =
     let t = c.args.self.now in
     let n = length-take t.len t.slots in
     let e = ap (λ (z : Link). before z c.args.link) (get_or-take t.len t.slots c.args.mid no_link (omega arith)) in
-    halved (links_of t) c.args.link c.args.mid t.order c.requires _ (c.is-before.ensures ∙ sym e)
+    halved (links_of t) c.args.link c.args.mid t.order c.requires _ (c.is_before.ensures ∙ sym e)
