@@ -1,9 +1,7 @@
 -- A table is what its links are.
 use Rattle.std.proofs.Common.{◌≡◌, ℕ, ◌-◌, ◌≤◌, true, List, ◌++◌, length, take, drop, replicate, sym, ap, ◌∙◌, arith}
 use mathlib.Core.HLevel.{Σ_prop_path}
-use base.Stored.{coded_ℕ, coded_bool, coded_list}
-use native.Mathlib.Bridge.{le_prop}
-use denote.Struct.Props.{≡_prop, five_prop}
+use denote.Struct.Props.{props}
 use Rattle.model.specs.contracts.link.Link.{the_row}
 use Rattle.std.proofs.lemmas.List.{take-append-drop, length-take-le}
 use Rattle.model.specs.declared.link.Link.{Link}
@@ -32,10 +30,7 @@ Facts v =
     × (drop v.1 v.0 ≡ replicate (2048 - v.1) no_link)
 
 facts_prop : (v : Vals) → IsProp (Facts v)
-facts_prop v =
-    five_prop (≡_prop coded_ℕ (length v.0) 2048) le_prop (≡_prop coded_bool (ascending (take v.1 v.0)) true) (
-    ≡_prop coded_bool (proper (take v.1 v.0)) true) (
-    ≡_prop (coded_list the_row.coded) (drop v.1 v.0) (replicate (2048 - v.1) no_link))
+facts_prop v = hlevel (props, the_row.coded)
 
 abbrev make : (v : Vals) × Facts v → LinkTable
 make p = record {
