@@ -45,7 +45,7 @@ pub trait ReadWords<W: Word, S: Semantics> {
 
 // A source of words.
 pub trait WordSource<W: Word, S: Semantics>: ReadWords<W, S> {
-    ghost fits: { (s : Self) → AllFit Partial-as-PartialWord.width (Self.ReadWords.coming s) };
+    ghost fits: { (s : Self) → AllFit W.Partial.PartialWord.width (Self.ReadWords.coming s) };
 }
 
 // A source that knows how many places are left.

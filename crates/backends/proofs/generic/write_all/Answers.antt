@@ -6,11 +6,11 @@ use Rattle.backends.specs.Slices.{word_at}
 use Rattle.backends.proofs.Extending.{one_more, refused, no_room, all_written}
 use Rattle.backends.proofs.generic.write_all.Goals as goal
 
-pub returns-in-err-write : goal.returns-in-err-write
-returns-in-err-write g c =
+pub returns-in_err-write : goal.returns-in_err-write
+returns-in_err-write g c =
     let b = g.B.WriteWords in
-    let e = c.in-err-write.ensures in
-    let p = err_from_is_err_and c.from-residual.result c.from-residual.ensures.1 in
+    let e = c.in_err-write.ensures in
+    let p = err_from_is_err_and c.from_residual.result c.from_residual.ensures.1 in
     let s = c.args.store.now in
     let xs = c.args.words.now in
     let v = word_at g.W.Word.value in
@@ -25,7 +25,7 @@ returns-in-err-write g c =
 pub loop-word-preserved : goal.loop-word-preserved
 loop-word-preserved g c =
     let b = g.B.WriteWords in
-    let e = c.in-ok-write.ensures in
+    let e = c.in_ok-write.ensures in
     one_more b.writes b.places b.capacity (word_at g.W.Word.value) c.args.store.now c.args.words.now c.loop-word.word-index c.loop-word.store c.loop-word.invariant (omega arith) c.word-item.result c.word-item.is c.write.new.self e.does e.means e.same
 
 pub returns : goal.returns
