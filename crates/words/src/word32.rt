@@ -18,13 +18,13 @@ impl PartialWord for Partial32 {
 
     ghost place = { λ p. p.mask };
 
-    ghost some = { first_of (Prim.search rules, Prim.grind (arith, Self.row.coded.inj)) };
+    ghost some = { Prim.search rules };
 
-    ghost most = { first_of (Prim.search rules, Prim.grind (arith, Self.row.coded.inj)) };
+    ghost most = { Prim.search rules };
 
     ghost few = { λ p. held_few 32 p.mask p.word };
 
-    ghost masked = { first_of (Prim.search rules, Prim.grind (arith, Self.row.coded.inj)) };
+    ghost masked = { Prim.search rules };
 
     fn new() -> Partial32 {
         none()

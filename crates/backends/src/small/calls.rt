@@ -108,11 +108,11 @@ impl WordSink<u64> for SmallStore {
         let le : length (small_places s) ≤ 8 = omega arith in
         le };
 
-    ghost bounded = { first_of (Prim.search rules, Prim.grind (arith, Self.row.coded.inj)) };
+    ghost bounded = { Prim.search rules };
 }
 
 impl WordStack<u64> for SmallStore {
-    ghost newest = { first_of (Prim.search rules, Prim.grind (arith, Self.row.coded.inj)) };
+    ghost newest = { Prim.search rules };
 
-    ghost kept = { first_of (Prim.search rules, Prim.grind (arith, Self.row.coded.inj)) };
+    ghost kept = { Prim.search rules };
 }
