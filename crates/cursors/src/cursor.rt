@@ -1,7 +1,8 @@
 // A lent slice of words with a position, as a stack, as a source and as a sink.
-ghost use Rattle.std.specs.Prelude.{◌≡◌, ℕ, ◌-◌, [], reverse, length, Ok};
+ghost use Rattle.std.specs.Prelude.{◌≡◌, ℕ, ◌-◌, [], reverse, length, Ok, refl};
 ghost use Rattle.backends.specs.Answers.{told_write};
 ghost use Rattle.cursors.specs.Cursors.{Checked, CursorPopped, CursorTook, CursorWrote, OpenedAt, at, queued, room_of, stacked};
+ghost use Rattle.cursors.specs.Laws.{popped_keeps, queue_fits, room_bounded, stack_fits, stack_within};
 
 mod calls;
 
@@ -155,10 +156,22 @@ impl<'a, W: Word> BoundedWriteWords<W> for Cursor<'a, W> {
     }
 }
 
-impl<'a, W: Word> WordSource<W, Stack> for Cursor<'a, W> {}
+impl<'a, W: Word> WordSource<W, Stack> for Cursor<'a, W> {
+    ghost fits = { stack_fits W.Partial.PartialWord.width W.Word.value W.Word.small };
+}
 
-impl<'a, W: Word> WordSource<W, Queue> for Cursor<'a, W> {}
+impl<'a, W: Word> WordSource<W, Queue> for Cursor<'a, W> {
+    ghost fits = { queue_fits W.Partial.PartialWord.width W.Word.value W.Word.small };
+}
 
-impl<'a, W: Word> WordSink<W> for Cursor<'a, W> {}
+impl<'a, W: Word> WordSink<W> for Cursor<'a, W> {
+    ghost within = { stack_within W.Word.value };
 
-impl<'a, W: Word> WordStack<W> for Cursor<'a, W> {}
+    ghost bounded = { room_bounded };
+}
+
+impl<'a, W: Word> WordStack<W> for Cursor<'a, W> {
+    ghost newest = { λ c. refl };
+
+    ghost kept = { popped_keeps };
+}

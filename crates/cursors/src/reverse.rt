@@ -4,7 +4,7 @@ ghost use Rattle.backends.specs.Answers.{told_write};
 ghost use Rattle.backends.specs.Slices.{Placed};
 ghost use Rattle.cursors.specs.Cursors.{room_of};
 ghost use Rattle.cursors.specs.Reversed.{PutBelow, SameStore, Turned, TurnedWrote, TurnsBack, reversed, turned_room, turned_stack};
-ghost use Rattle.std.proofs.Common.{rules};
+ghost use Rattle.cursors.specs.Laws.{took_keeps, turned_bounded, turned_newest, turned_within};
 
 use super::cursor::Cursor;
 use backends::fault::{ReadFault, SeekError};
@@ -61,14 +61,14 @@ impl<W: Word, B> WordSource<W, Queue> for Reverse<B>
 where
     B: WordSource<W, Stack>,
 {
-    ghost fits = { Prim.search rules };
+    ghost fits = { λ s. B.WordSource.fits s.0 };
 }
 
 impl<W: Word, B> WordSource<W, Stack> for Reverse<B>
 where
     B: WordSource<W, Queue>,
 {
-    ghost fits = { Prim.search rules };
+    ghost fits = { λ s. B.WordSource.fits s.0 };
 }
 
 // A reversed cursor holds, as a stack, the words from the last slot down to the position; its capacity is the slice's length.
@@ -90,9 +90,17 @@ impl<'a, W: Word> BoundedWriteWords<W> for Reverse<Cursor<'a, W>> {
     }
 }
 
-impl<'a, W: Word> WordSink<W> for Reverse<Cursor<'a, W>> {}
+impl<'a, W: Word> WordSink<W> for Reverse<Cursor<'a, W>> {
+    ghost within = { turned_within W.Word.value };
 
-impl<'a, W: Word> WordStack<W> for Reverse<Cursor<'a, W>> {}
+    ghost bounded = { turned_bounded };
+}
+
+impl<'a, W: Word> WordStack<W> for Reverse<Cursor<'a, W>> {
+    ghost newest = { turned_newest W.Word.value };
+
+    ghost kept = { took_keeps };
+}
 
 // The position is the wrapped store's.
 impl<B: Pos> Pos for Reverse<B> {

@@ -7,7 +7,7 @@ use Rattle.std.proofs.lemmas.List.FromFn.{length-map-range_with_len, get_or-map-
 use Rattle.model.specs.Cells.{Place, word, fault}
 use Rattle.backends.specs.Slices.{before}
 use Rattle.records.specs.Records.{word_in, place_at, numbers, record_stack, record_room, record_at, put_record}
-use Rattle.records.proofs.Places.{many_numbers, stands}
+use Rattle.records.specs.Places.{many_numbers, stands}
 
 -- the bytes after one, two, .. of the five writes
 abbrev one : List ℕ → ℕ → ℕ → List ℕ

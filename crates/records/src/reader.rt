@@ -2,6 +2,7 @@
 ghost use Rattle.std.specs.Prelude.{◌≡◌, [], reverse, length};
 ghost use Rattle.records.specs.Faults.{RecordsPlaced};
 ghost use Rattle.records.specs.Readers.{ReaderPopped, ReaderTook, reader_queue, reader_stack};
+ghost use Rattle.records.specs.Places.{queue_fits, stack_fits};
 
 use super::record::{Taken, check_records, count, held, newest, next};
 use backends::fault::ReadFault;
@@ -77,6 +78,10 @@ impl<'a> BoundedReadWords<u32, Queue> for Records<'a> {
     }
 }
 
-impl<'a> WordSource<u32, Stack> for Records<'a> {}
+impl<'a> WordSource<u32, Stack> for Records<'a> {
+    ghost fits = { λ s. stack_fits s.bytes.now s.pos };
+}
 
-impl<'a> WordSource<u32, Queue> for Records<'a> {}
+impl<'a> WordSource<u32, Queue> for Records<'a> {
+    ghost fits = { λ s. queue_fits s.bytes.now s.pos };
+}

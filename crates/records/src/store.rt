@@ -1,8 +1,10 @@
 // Byte records that are read and written, over lent bytes.
-ghost use Rattle.std.specs.Prelude.{◌≡◌, reverse, length};
+ghost use Rattle.std.specs.Prelude.{◌≡◌, reverse, length, refl};
 ghost use Rattle.records.specs.Reads.{NewestRead, NextRead};
 ghost use Rattle.records.specs.Records.{RecordFree};
 ghost use Rattle.records.specs.Written.{StoreOpened, StorePopped, StoreTook, StoreWrote, store_queue, store_room, store_stack};
+ghost use Rattle.records.specs.Laws.{store_bounded, store_kept, store_within};
+ghost use Rattle.records.specs.Places.{queue_fits, stack_fits};
 
 use super::record::{Taken, check_records, count, free, held, newest, next, put_record};
 use backends::fault::ReadFault;
@@ -137,10 +139,22 @@ impl<'a> BoundedWriteWords<u32> for RecordStore<'a> {
     }
 }
 
-impl<'a> WordSource<u32, Stack> for RecordStore<'a> {}
+impl<'a> WordSource<u32, Stack> for RecordStore<'a> {
+    ghost fits = { λ s. stack_fits s.bytes.now s.pos };
+}
 
-impl<'a> WordSource<u32, Queue> for RecordStore<'a> {}
+impl<'a> WordSource<u32, Queue> for RecordStore<'a> {
+    ghost fits = { λ s. queue_fits s.bytes.now s.pos };
+}
 
-impl<'a> WordSink<u32> for RecordStore<'a> {}
+impl<'a> WordSink<u32> for RecordStore<'a> {
+    ghost within = { store_within };
 
-impl<'a> WordStack<u32> for RecordStore<'a> {}
+    ghost bounded = { store_bounded };
+}
+
+impl<'a> WordStack<u32> for RecordStore<'a> {
+    ghost newest = { λ s. refl };
+
+    ghost kept = { store_kept };
+}

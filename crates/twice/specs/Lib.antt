@@ -1,3 +1,5 @@
 pub mod Calls
+pub mod Laws
 pub mod Parts
 pub mod Places
+pub mod Slots

@@ -2,10 +2,12 @@
 // docs/STORES.md walks through this crate; a store of your own can begin as a copy of it.
 #![tactic(auto)]
 
-ghost use Rattle.std.specs.Prelude.{◌≡◌, ◌+◌, ◌*◌, ◌<◌, reverse, length};
+ghost use Rattle.std.specs.Prelude.{◌≡◌, ◌+◌, ◌*◌, ◌<◌, reverse, length, refl};
 ghost use Rattle.twice.specs.Calls.{TwiceOpened, TwicePopped, TwiceWrote};
 ghost use Rattle.twice.specs.Parts.{SlotRead, TwiceHeld};
 ghost use Rattle.twice.specs.Places.{put_twice, twice_room, twice_stack};
+ghost use Rattle.twice.specs.Laws.{places_within, room_bounded, room_kept};
+ghost use Rattle.twice.specs.Slots.{all_fits};
 
 use backends::fault::ReadFault;
 use backends::traits::{
@@ -134,11 +136,21 @@ impl<'a> BoundedWriteWords<u8> for TwiceStore<'a> {
     }
 }
 
-impl<'a> WordSource<u8, Stack> for TwiceStore<'a> {}
+impl<'a> WordSource<u8, Stack> for TwiceStore<'a> {
+    ghost fits = { λ s. all_fits s.bytes.now s.pos };
+}
 
-impl<'a> WordSink<u8> for TwiceStore<'a> {}
+impl<'a> WordSink<u8> for TwiceStore<'a> {
+    ghost within = { places_within };
 
-impl<'a> WordStack<u8> for TwiceStore<'a> {}
+    ghost bounded = { room_bounded };
+}
+
+impl<'a> WordStack<u8> for TwiceStore<'a> {
+    ghost newest = { λ s. refl };
+
+    ghost kept = { room_kept };
+}
 
 #[cfg(test)]
 mod tests {

@@ -1,6 +1,6 @@
 use Rattle.std.proofs.Common.{◌≡◌, sym, arith}
 use Rattle.records.specs.Records.{record_at}
-use Rattle.records.proofs.Places.{many, many_left, many_turned}
+use Rattle.records.specs.Places.{many, many_left, many_turned}
 use Rattle.records.proofs.record.held.Goals as goal
 
 pub returns : goal.returns

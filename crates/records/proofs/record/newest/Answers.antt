@@ -1,7 +1,7 @@
 use Rattle.std.proofs.Common.{◌-◌, ◌%◌, ◌^◌, reverse, refl, ap}
 use Rattle.model.specs.Cells.{word, fault}
 use Rattle.records.specs.Records.{record_stack}
-use Rattle.records.proofs.Places.{newest, none_held}
+use Rattle.records.specs.Places.{newest, none_held}
 use Rattle.records.proofs.record.newest.Goals as goal
 
 pub returns-then-at-eq0 : goal.returns-then-at-eq0

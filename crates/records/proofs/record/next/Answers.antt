@@ -1,7 +1,7 @@
 use Rattle.std.proofs.Common.{◌+◌, ◌%◌, ◌^◌, refl, ap, arith}
 use Rattle.model.specs.Cells.{word, fault}
 use Rattle.records.specs.Records.{record_queue}
-use Rattle.records.proofs.Places.{next, none_to_come}
+use Rattle.records.specs.Places.{next, none_to_come}
 use Rattle.records.proofs.record.next.Goals as goal
 
 pub returns-then-at-count : goal.returns-then-at-count

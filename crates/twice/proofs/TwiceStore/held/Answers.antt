@@ -3,7 +3,7 @@ use Rattle.std.proofs.Common.{◌≡◌, ◌+◌, ◌-◌, reverse, sym, refl, a
 use Rattle.model.specs.Cells.{word, fault}
 use Rattle.backends.specs.Fronts.{length-turned}
 use Rattle.twice.specs.Places.{places_of, slots_before, slots_of}
-use Rattle.twice.proofs.Slots.{many, more, newest, none, same-room}
+use Rattle.twice.specs.Slots.{many, more, newest, none, same-room}
 use Rattle.twice.proofs.TwiceStore.held.Goals as goal
 
 pub returns : goal.returns
