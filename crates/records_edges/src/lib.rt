@@ -34,7 +34,7 @@ mod tests {
         let (bytes, pos) = store.into_bytes_and_pos();
         assert_eq!(rt; pos, 2);
         let bytes: &[u8] = bytes;
-        assert_eq!(rt; bytes, &[1, 0, 0, 0, 1, 0xA7, 7, 0, 0, 8]);
+        assert_eq!(rt; bytes, [1, 0, 0, 0, 1, 0xA7, 7, 0, 0, 8].as_slice());
     }
 
     // Faults in the first place and in the last: a fifth byte that is one too low or too high.

@@ -174,7 +174,7 @@ mod tests {
         let (bytes, pos) = store.into_bytes_and_pos();
         assert_eq!(rt; pos, 2);
         let bytes: &[u8] = bytes;
-        assert_eq!(rt; bytes, &[0x0D, 0x0D, 0x41, 0x40, 7, 7]);
+        assert_eq!(rt; bytes, [0x0D, 0x0D, 0x41, 0x40, 7, 7].as_slice());
     }
 
     // Over an odd number of bytes: the only slot, with a call that takes any word stack, and a position past it.
