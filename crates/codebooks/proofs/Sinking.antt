@@ -1,5 +1,5 @@
 -- One list of bits after another handed to a sink.
-use Rattle.std.proofs.Common.{◌≡◌, ℕ, ◌+◌, ◌-◌, Bool, List, [], ◌∷◌, ◌++◌, length, take, Ok, Err, sym, refl, ap, ◌∙◌, append_assoc, append-nil, suc-add, zero-add, arith, length-append}
+use Rattle.std.proofs.Common.{◌≡◌, ℕ, ◌+◌, ◌-◌, ◌≤◌, Bool, List, [], ◌∷◌, ◌++◌, length, take, Ok, Err, sym, refl, ap, ◌∙◌, append_assoc, append-nil, suc-add, zero-add, arith, length-append}
 use lib.ListN.{length-map}
 use Rattle.std.proofs.lemmas.List.{take-append-le}
 use Rattle.model.specs.Cells.{bit, bits}
@@ -71,5 +71,5 @@ module _ {S : Type 0} (held : S → Sink) (emits : S → Bool → Answer (Unit {
   sent_front v w s t e a = record { means = (a.means.0, stopped-front v w (held s) (held t) a.means.1); does = wrote_front w a.does }
 
   -- No bits at all.
-  pub sent_none : (s : S) → Sent held emits [] s (Ok tt) s
-  sent_none s = record { means = (omega arith, sym (append-nil (held s).taken), refl); does = none_left }
+  pub sent_none : (s : S) → length (held s).taken ≤ (held s).limit → Sent held emits [] s (Ok tt) s
+  sent_none s within = record { means = (omega arith, sym (append-nil (held s).taken), refl); does = none_left }

@@ -1,6 +1,7 @@
 pub mod Answers
 pub mod Chains
 pub mod Collected
+pub mod ScratchLaws
 pub mod Scratches
 pub mod Sent
 pub mod Streams

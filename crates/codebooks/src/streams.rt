@@ -1,5 +1,5 @@
 // Bit sinks and bit sources.
-ghost use Rattle.std.specs.Prelude.{min, Bool, List, [], ◌∷◌, Option};
+ghost use Rattle.std.specs.Prelude.{◌≤◌, min, Bool, List, [], ◌∷◌, length, Option};
 ghost use Rattle.model.specs.Cells.{Cell};
 ghost use Rattle.model.specs.Refusals.{Answer};
 ghost use Rattle.model.specs.Sinks.{Emitted, Read, Sink};
@@ -31,6 +31,8 @@ pub trait BitSink {
     fn emit(&mut self, bit: bool) -> Result<(), BoundedWriteError>
         ensures means { Emitted (bit ∷ []) (held self.old) (told_write result) (held self.new) }
         ensures does { emits self.old bit (told_write result) self.new };
+
+    ghost within: { (s : Self) → length (held s).taken ≤ (held s).limit };
 }
 
 // Takes several bits at once, as by single calls. (It is a trait of its own so that a sink's calls may be made of its single calls.)

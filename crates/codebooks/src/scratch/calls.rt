@@ -1,5 +1,6 @@
 // A scratch as a sink.
 ghost use Rattle.std.specs.Prelude.{◌≡◌, false, [], length, slice_index_or};
+ghost use Rattle.codebooks.specs.ScratchLaws.{scratch_within};
 ghost use Rattle.codebooks.specs.Scratches.{ScratchTook, scratch_bits, scratch_sink};
 
 use super::Scratch;
@@ -38,6 +39,8 @@ impl BitSink for Scratch {
     ghost held = { scratch_sink };
 
     ghost emits = { ScratchTook };
+
+    ghost within = { scratch_within };
 
     fn emit(&mut self, bit: bool) -> Result<(), BoundedWriteError> {
         if self.len == 256 {

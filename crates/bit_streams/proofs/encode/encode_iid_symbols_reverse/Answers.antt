@@ -13,7 +13,7 @@ loop-left-preserved g c =
     let left = c.loop-left.left in
     let e : left ≡ left - 1 + 1 = omega arith in (
       omega (arith, inv.0),
-      one_more_back g.K.WriteBitStream.encodes (g.C.Codebook.code c.args.book.now) c.args.stream.now c.args.symbols.now (left - 1) c.loop-left.stream (omega (arith, inv.0)) x.result x.is c.encode-symbol.new.self
+      one_more_back g.K.WriteBitStream.encodes (g.C.Codebook.code c.args.book.now) c.args.stream.now c.args.symbols.now (left - 1) c.loop-left.stream (omega (arith, inv.0)) x.result x.is c.encode_symbol.new.self
           (subst (λ k. FromEnd g.K.WriteBitStream.encodes (g.C.Codebook.code c.args.book.now) c.args.stream.now c.args.symbols.now k c.loop-left.stream) e inv.1) c.in-Ok.ensures,
     )
 
@@ -23,7 +23,7 @@ returns-in-Err g c =
     let inv = c.loop-left.invariant in
     let left = c.loop-left.left in
     let e : left ≡ left - 1 + 1 = omega arith in
-    refused_back g.K.WriteBitStream.encodes (g.C.Codebook.code c.args.book.now) c.args.stream.now c.args.symbols.now (left - 1) c.loop-left.stream (omega (arith, inv.0)) x.result x.is c.encode-symbol.new.self (encode_refusal c.in-Err.error)
+    refused_back g.K.WriteBitStream.encodes (g.C.Codebook.code c.args.book.now) c.args.stream.now c.args.symbols.now (left - 1) c.loop-left.stream (omega (arith, inv.0)) x.result x.is c.encode_symbol.new.self (encode_refusal c.in-Err.error)
     (subst (λ k. FromEnd g.K.WriteBitStream.encodes (g.C.Codebook.code c.args.book.now) c.args.stream.now c.args.symbols.now k c.loop-left.stream) e inv.1) c.in-Err.ensures
 
 pub returns : goal.returns

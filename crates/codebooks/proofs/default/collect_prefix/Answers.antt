@@ -8,12 +8,12 @@ use Rattle.codebooks.proofs.default.collect_prefix.Goals as goal
 pub returns-in-Ok : goal.returns-in-Ok
 returns-in-Ok g c =
     let code = g.C.Codebook.code c.args.book.now c.args.symbol in
-    let after = c.encode-symbol-prefix.new.sink in
+    let after = c.encode_symbol_prefix.new.sink in
     let p = all_taken code (scratch_sink c.new-scratch.result) (scratch_sink after) c.new-scratch.ensures.taken c.in-Ok.ensures.means in
     ap reversed p.1 ∙ ap (λ w. Some (reverse w)) (sym (same_bits (scratch_bits after) p.0 p.2))
 
 pub returns-in-Err : goal.returns-in-Err
 returns-in-Err g c =
     let code = g.C.Codebook.code c.args.book.now c.args.symbol in
-    let p = only_unlisted code (scratch_sink c.new-scratch.result) (scratch_sink c.encode-symbol-prefix.new.sink) (encode_refusal c.in-Err.error) (λ v e. (g.C.Codebook.lengths c.args.book.now c.args.symbol v e).1) c.new-scratch.ensures.taken c.new-scratch.ensures.limit c.in-Err.ensures.means in
+    let p = only_unlisted code (scratch_sink c.new-scratch.result) (scratch_sink c.encode_symbol_prefix.new.sink) (encode_refusal c.in-Err.error) (λ v e. (g.C.Codebook.lengths c.args.book.now c.args.symbol v e).1) c.new-scratch.ensures.taken c.new-scratch.ensures.limit c.in-Err.ensures.means in
     (ap reversed p.0, p.1)

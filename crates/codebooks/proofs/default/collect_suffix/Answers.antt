@@ -8,12 +8,12 @@ use Rattle.codebooks.proofs.default.collect_suffix.Goals as goal
 pub returns-in-Ok : goal.returns-in-Ok
 returns-in-Ok g c =
     let code = g.C.Codebook.code c.args.book.now c.args.symbol in
-    let after = c.encode-symbol-suffix.new.sink in
+    let after = c.encode_symbol_suffix.new.sink in
     let p = all_taken (reversed code) (scratch_sink c.new-scratch.result) (scratch_sink after) c.new-scratch.ensures.taken c.in-Ok.ensures.means in
     reversed_some code p.0 p.1 ∙ ap (λ w. Some (reverse w)) (sym (same_bits (scratch_bits after) p.0 p.2))
 
 pub returns-in-Err : goal.returns-in-Err
 returns-in-Err g c =
     let code = g.C.Codebook.code c.args.book.now c.args.symbol in
-    let p = only_unlisted (reversed code) (scratch_sink c.new-scratch.result) (scratch_sink c.encode-symbol-suffix.new.sink) (encode_refusal c.in-Err.error) (reversed_few code (λ v e. (g.C.Codebook.lengths c.args.book.now c.args.symbol v e).1)) c.new-scratch.ensures.taken c.new-scratch.ensures.limit c.in-Err.ensures.means in
+    let p = only_unlisted (reversed code) (scratch_sink c.new-scratch.result) (scratch_sink c.encode_symbol_suffix.new.sink) (encode_refusal c.in-Err.error) (reversed_few code (λ v e. (g.C.Codebook.lengths c.args.book.now c.args.symbol v e).1)) c.new-scratch.ensures.taken c.new-scratch.ensures.limit c.in-Err.ensures.means in
     (reversed_none code p.0, p.1)

@@ -30,7 +30,7 @@ loop-left-init g c =
     let xs = scratch_bits c.args.scratch.now in
     let e : reverse (drop c.len-left.result xs) ≡ [] = ap (λ k. reverse (drop k xs)) c.len-left.ensures ∙ ap reverse (drop_all xs) in (
       omega arith,
-      subst (λ v. Sent g.K.BitSink.held g.K.BitSink.emits v c.args.sink.now (Ok tt) c.args.sink.now) (sym e) (sent_none g.K.BitSink.held g.K.BitSink.emits c.args.sink.now),
+      subst (λ v. Sent g.K.BitSink.held g.K.BitSink.emits v c.args.sink.now (Ok tt) c.args.sink.now) (sym e) (sent_none g.K.BitSink.held g.K.BitSink.emits c.args.sink.now (g.met.K.BitSink.within c.args.sink.now)),
     )
 
 pub loop-left-preserved : goal.loop-left-preserved

@@ -8,7 +8,7 @@ use Rattle.codebooks.proofs.Sinking.{sent_front, sent_more, sent_none}
 use Rattle.codebooks.proofs.each.emit_low.Goals as goal
 
 pub loop-i-init : goal.loop-i-init
-loop-i-init g c = sent_none g.K.BitSink.held g.K.BitSink.emits c.args.sink.now
+loop-i-init g c = sent_none g.K.BitSink.held g.K.BitSink.emits c.args.sink.now (g.met.K.BitSink.within c.args.sink.now)
 
 pub returns-in-Err : goal.returns-in-Err
 returns-in-Err g c =

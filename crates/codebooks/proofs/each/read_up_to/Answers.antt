@@ -22,8 +22,8 @@ returns-in-Err g c =
       does = (answers ++ (Err (read_refusal c.in-Err.fault) ∷ []), read_more r (read_then c.in-Err.ensures.does no_read));
     }
 
-pub overflow-mul-number : goal.overflow-mul-number
-overflow-mul-number g c =
+pub overflow_mul-number : goal.overflow_mul-number
+overflow_mul-number g c =
     let i = c.loop-i.i in
     let (w, answers, lw, e, nv, r) = c.loop-i.invariant in
     let l : suc i ≤ 64 = omega arith in
@@ -31,8 +31,8 @@ overflow-mul-number g c =
     let h : 2 * c.loop-i.number + 1 < 2 ^ 64 = omega (arith, two_pow i, pow_mono l, nv) in
     search rules
 
-pub overflow-add-number : goal.overflow-add-number
-overflow-add-number g c =
+pub overflow_add-number : goal.overflow_add-number
+overflow_add-number g c =
     let i = c.loop-i.i in
     let (w, answers, lw, e, nv, r) = c.loop-i.invariant in
     let l : suc i ≤ 64 = omega arith in
@@ -44,7 +44,7 @@ pub returns-in-None : goal.returns-in-None
 returns-in-None g c =
     let coming = g.R.BitSource.coming in
     let cs = coming c.loop-i.source in
-    let cs' = coming c.next-bit.new.self in
+    let cs' = coming c.next_bit.new.self in
     let (w, answers, lw, e, nv, r) = c.loop-i.invariant in
     let m : Read cs (Ok None) cs' = subst (λ o. Read cs (Ok o) cs') c.in-None.is c.in-Ok.ensures.means in
     let (nil, nil') = m in
@@ -57,7 +57,7 @@ pub loop-i-preserved : goal.loop-i-preserved
 loop-i-preserved g c =
     let coming = g.R.BitSource.coming in
     let cs = coming c.loop-i.source in
-    let cs' = coming c.next-bit.new.self in
+    let cs' = coming c.next_bit.new.self in
     let b = c.in-Some.bit in
     let (w, answers, lw, e, nv, r) = c.loop-i.invariant in
     let m : cs ≡ bit b ∷ cs' = subst (λ o. Read cs (Ok o) cs') c.in-Some.is c.in-Ok.ensures.means in (

@@ -28,7 +28,7 @@ pub returns-in-None : goal.returns-in-None
 returns-in-None g c =
     let coming = g.R.BitSource.coming in
     let cs = coming c.loop-next.source in
-    let cs' = coming c.next-bit.new.self in
+    let cs' = coming c.next_bit.new.self in
     let (z, answers, n, e, r) = c.loop-next.invariant in
     let m : Read cs (Ok None) cs' = subst (λ o. Read cs (Ok o) cs') c.in-None.is c.in-Ok.ensures.means in
     let (nil, nil') = m in
@@ -41,7 +41,7 @@ pub returns-then-one : goal.returns-then-one
 returns-then-one g c =
     let coming = g.R.BitSource.coming in
     let cs = coming c.loop-next.source in
-    let cs' = coming c.next-bit.new.self in
+    let cs' = coming c.next_bit.new.self in
     let (z, answers, n, e, r) = c.loop-next.invariant in
     let m : cs ≡ bit c.in-Some.one ∷ cs' = subst (λ o. Read cs (Ok o) cs') c.in-Some.is c.in-Ok.ensures.means in
     let m' : cs ≡ bit true ∷ cs' = m ∙ ap (λ b. bit b ∷ cs') c.if-one.true in
@@ -54,14 +54,14 @@ pub loop-next-preserved : goal.loop-next-preserved
 loop-next-preserved g c =
     let coming = g.R.BitSource.coming in
     let cs = coming c.loop-next.source in
-    let cs' = coming c.next-bit.new.self in
+    let cs' = coming c.next_bit.new.self in
     let (z, answers, n, e, r) = c.loop-next.invariant in
     let m : cs ≡ bit c.in-Some.one ∷ cs' = subst (λ o. Read cs (Ok o) cs') c.in-Some.is c.in-Ok.ensures.means in
     let m' : cs ≡ bit false ∷ cs' = m ∙ ap (λ b. bit b ∷ cs') c.if-one.false in
     let s : zeros z ++ (false ∷ []) ≡ zeros (z + 1) = zeros-more z [] ∙ append-nil (zeros (z + 1)) in (
       z + 1,
       answers ++ (Ok c.in-Ok.next ∷ []),
-      omega (arith, n, c.saturating-add-zeros.ensures),
+      omega (arith, n, c.saturating_add-zeros.ensures),
       e ∙ ap (λ x. bits (zeros z) ++ x) m' ∙ sym (append_assoc (bits (zeros z)) (bits (false ∷ [])) cs') ∙ ap (λ x. x ++ cs') (sym (bits-append (zeros z) (false ∷ [])) ∙ ap bits s),
       read_more r (read_then c.in-Ok.ensures.does no_read),
     )
