@@ -11,7 +11,7 @@ use super::streams::{BitSink, BitSource, BitsSink, BitsSource};
 use backends::fault::ReadFault;
 use words::fault::BoundedWriteError;
 
-// Symbols and their codewords. A codeword has 1 to 256 bits, and none begins another symbol's.
+// Symbols and their codewords.
 pub trait Codebook {
     type Symbol;
 
@@ -20,20 +20,23 @@ pub trait Codebook {
 
     // what decoding comes to, by the bits to come
     ghost outcome: { Self → List Bool → Outcome Self.Symbol };
+}
 
-    ghost lengths: { Lengths {B = Self} (λ _. Self.Symbol) code };
+// A prefix code: a codeword has 1 to 256 bits, and none begins another symbol's.
+pub trait PrefixCode: Codebook {
+    ghost lengths: { Lengths {B = Self} (λ _. Self.Symbol) Self.Codebook.code };
 
-    ghost apart: { PrefixFree {B = Self} (λ _. Self.Symbol) code };
+    ghost apart: { PrefixFree {B = Self} (λ _. Self.Symbol) Self.Codebook.code };
 
-    ghost finds: { Finds {B = Self} (λ _. Self.Symbol) code outcome };
+    ghost finds: { Finds {B = Self} (λ _. Self.Symbol) Self.Codebook.code Self.Codebook.outcome };
 
-    ghost found: { Found {B = Self} (λ _. Self.Symbol) code outcome };
+    ghost found: { Found {B = Self} (λ _. Self.Symbol) Self.Codebook.code Self.Codebook.outcome };
 
-    ghost part: { Part {B = Self} (λ _. Self.Symbol) code outcome };
+    ghost part: { Part {B = Self} (λ _. Self.Symbol) Self.Codebook.code Self.Codebook.outcome };
 }
 
 // Writes symbols.
-pub trait EncoderCodebook: Codebook {
+pub trait EncoderCodebook: PrefixCode {
     // The codeword from its first bit to its last, for queues.
     fn encode_symbol_prefix<K: BitsSink>(
         &self,
@@ -54,7 +57,7 @@ pub trait EncoderCodebook: Codebook {
 }
 
 // Reads symbols.
-pub trait DecoderCodebook: Codebook {
+pub trait DecoderCodebook: PrefixCode {
     fn decode_symbol<R: BitsSource>(
         &self,
         source: &mut R,

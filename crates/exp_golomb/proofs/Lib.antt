@@ -1,4 +1,3 @@
-mod GolombLaws
 mod Handing
 mod Parsing
 mod Symbols

@@ -1,1 +1,2 @@
+pub mod GolombLaws
 pub mod Parsed

@@ -13,7 +13,7 @@ use words::{PartialWord, Word};
 
 // The codeword of a number, first bit first.
 pub fn emit_codeword<N: Word, K: BitsSink>(symbol: N, sink: &mut K) -> Result<(), BoundedWriteError>
-    ensures { Coded K.BitSink.held K.BitSink.emits (code_at Partial-as-PartialWord.width (N.Word.number symbol)) sink.old (told_write result) sink.new }
+    ensures { Coded K.BitSink.held K.BitSink.emits (code_at N.Partial.PartialWord.width (N.Word.number symbol)) sink.old (told_write result) sink.new }
 {
     let parts = parts_of(symbol);
     emit_around_one(sink, 0, parts.turned, parts.zeros)
@@ -21,7 +21,7 @@ pub fn emit_codeword<N: Word, K: BitsSink>(symbol: N, sink: &mut K) -> Result<()
 
 // The same, last bit first.
 pub fn emit_reversed<N: Word, K: BitsSink>(symbol: N, sink: &mut K) -> Result<(), BoundedWriteError>
-    ensures { Coded K.BitSink.held K.BitSink.emits (reversed (code_at Partial-as-PartialWord.width (N.Word.number symbol))) sink.old (told_write result) sink.new }
+    ensures { Coded K.BitSink.held K.BitSink.emits (reversed (code_at N.Partial.PartialWord.width (N.Word.number symbol))) sink.old (told_write result) sink.new }
 {
     let parts = parts_of(symbol);
     emit_around_one(sink, parts.low, 0, parts.zeros)
@@ -36,8 +36,8 @@ struct Parts {
 }
 
 fn parts_of<N: Word>(symbol: N) -> Parts
-    ensures first { code_at Partial-as-PartialWord.width (N.Word.number symbol) ≡ Some (handed 0 result.zeros ++ ((true ∷ []) ++ handed result.turned result.zeros)) }
-    ensures last { reversed (code_at Partial-as-PartialWord.width (N.Word.number symbol)) ≡ Some (handed result.low result.zeros ++ ((true ∷ []) ++ handed 0 result.zeros)) }
+    ensures first { code_at N.Partial.PartialWord.width (N.Word.number symbol) ≡ Some (handed 0 result.zeros ++ ((true ∷ []) ++ handed result.turned result.zeros)) }
+    ensures last { reversed (code_at N.Partial.PartialWord.width (N.Word.number symbol)) ≡ Some (handed result.low result.zeros ++ ((true ∷ []) ++ handed 0 result.zeros)) }
 {
     let split = split_of(symbol.to_u64());
     Parts {

@@ -3,9 +3,10 @@
 
 ghost use Rattle.model.specs.Codebooks.{on_symbol};
 ghost use Rattle.model.specs.Golomb.{Clause_9_1, ParsingReadsCodewords, code_at, parse};
+ghost use Rattle.exp_golomb.specs.GolombLaws as laws;
 
 use backends::fault::ReadFault;
-use codebooks::book::{Codebook, DecoderCodebook, EncoderCodebook};
+use codebooks::book::{Codebook, DecoderCodebook, EncoderCodebook, PrefixCode};
 use codebooks::fault::{CoderError, DefaultEncoderFrontendError, SymbolCodeError};
 use codebooks::streams::{BitsSink, BitsSource};
 use std::marker::PhantomData;
@@ -26,7 +27,7 @@ impl<N: Word> ExpGolomb<N> {
     // The code, whose codewords and whose parsing process are those of the clause, and agree.
     pub fn new() -> ExpGolomb<N>
         ensures clause { Clause_9_1 }
-        ensures agrees { ParsingReadsCodewords Partial-as-PartialWord.width }
+        ensures agrees { ParsingReadsCodewords N.Partial.PartialWord.width }
     {
         ExpGolomb(PhantomData)
     }
@@ -35,9 +36,21 @@ impl<N: Word> ExpGolomb<N> {
 impl<N: Word> Codebook for ExpGolomb<N> {
     type Symbol = N;
 
-    ghost code = { λ _ s. code_at Partial-as-PartialWord.width (N.Word.number s) };
+    ghost code = { λ _ s. code_at N.Partial.PartialWord.width (N.Word.number s) };
 
-    ghost outcome = { λ _ coming. on_symbol N.Word.word (parse Partial-as-PartialWord.width coming) };
+    ghost outcome = { λ _ coming. on_symbol N.Word.word (parse N.Partial.PartialWord.width coming) };
+}
+
+impl<N: Word> PrefixCode for ExpGolomb<N> {
+    ghost lengths = { laws.lengths N.Partial.PartialWord.width N.Word.number N.Word.word N.Partial.PartialWord.most };
+
+    ghost apart = { laws.apart N.Partial.PartialWord.width N.Word.number N.Word.word N.Word.back };
+
+    ghost finds = { laws.finds N.Partial.PartialWord.width N.Word.number N.Word.word N.Word.back };
+
+    ghost found = { laws.found N.Partial.PartialWord.width N.Word.number N.Word.word N.Word.there };
+
+    ghost part = { laws.part N.Partial.PartialWord.width N.Word.number N.Word.word };
 }
 
 impl<N: Word> EncoderCodebook for ExpGolomb<N> {

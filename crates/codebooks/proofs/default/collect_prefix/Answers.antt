@@ -15,5 +15,5 @@ returns-in-Ok g c =
 pub returns-in-Err : goal.returns-in-Err
 returns-in-Err g c =
     let code = g.C.Codebook.code c.args.book.now c.args.symbol in
-    let p = only_unlisted code (scratch_sink c.new-scratch.result) (scratch_sink c.encode_symbol_prefix.new.sink) (encode_refusal c.in-Err.error) (λ v e. (g.C.Codebook.lengths c.args.book.now c.args.symbol v e).1) c.new-scratch.ensures.taken c.new-scratch.ensures.limit c.in-Err.ensures.means in
+    let p = only_unlisted code (scratch_sink c.new-scratch.result) (scratch_sink c.encode_symbol_prefix.new.sink) (encode_refusal c.in-Err.error) (λ v e. (g.met.C.PrefixCode.lengths c.args.book.now c.args.symbol v e).1) c.new-scratch.ensures.taken c.new-scratch.ensures.limit c.in-Err.ensures.means in
     (ap reversed p.0, p.1)

@@ -15,8 +15,8 @@ returns-in-Err g c =
     let e = write_refusal c.in-Err.full in
     let v = handed a.first a.count in
     let w = (true ∷ []) ++ handed a.last a.count in
-    coded held emits (v ++ w) a.sink.now c.emit-bits.new.self (Err e)
-    (sent_front held emits v w a.sink.now c.emit-bits.new.self e c.in-Err.ensures)
+    coded held emits (v ++ w) a.sink.now c.emit_bits.new.self (Err e)
+    (sent_front held emits v w a.sink.now c.emit_bits.new.self e c.in-Err.ensures)
 
 pub returns-in-Err-emit : goal.returns-in-Err-emit
 returns-in-Err-emit g c =
@@ -27,8 +27,8 @@ returns-in-Err-emit g c =
     let v = handed a.first a.count in
     let w = (true ∷ []) ++ handed a.last a.count in
     coded held emits (v ++ w) a.sink.now c.emit.new.self (Err e)
-    (sent_more held emits v w a.sink.now c.emit-bits.new.self c.emit.new.self (Err e) c.in-Ok.ensures
-    (sent_front held emits (true ∷ []) (handed a.last a.count) c.emit-bits.new.self c.emit.new.self e
+    (sent_more held emits v w a.sink.now c.emit_bits.new.self c.emit.new.self (Err e) c.in-Ok.ensures
+    (sent_front held emits (true ∷ []) (handed a.last a.count) c.emit_bits.new.self c.emit.new.self e
     (record { means = c.in-Err-emit.ensures.means; does = one_refused c.in-Err-emit.ensures.does })))
 
 pub returns : goal.returns
@@ -36,11 +36,11 @@ returns g c =
     let a = c.args in
     let held = g.K.BitSink.held in
     let emits = g.K.BitSink.emits in
-    let r = told_write c.emit-bits-2.result in
+    let r = told_write c.emit_bits-2.result in
     let v = handed a.first a.count in
     let w = (true ∷ []) ++ handed a.last a.count in
-    coded held emits (v ++ w) a.sink.now c.emit-bits-2.new.self r
-    (sent_more held emits v w a.sink.now c.emit-bits.new.self c.emit-bits-2.new.self r c.in-Ok.ensures
-    (sent_more held emits (true ∷ []) (handed a.last a.count) c.emit-bits.new.self c.emit.new.self c.emit-bits-2.new.self r
+    coded held emits (v ++ w) a.sink.now c.emit_bits-2.new.self r
+    (sent_more held emits v w a.sink.now c.emit_bits.new.self c.emit_bits-2.new.self r c.in-Ok.ensures
+    (sent_more held emits (true ∷ []) (handed a.last a.count) c.emit_bits.new.self c.emit.new.self c.emit_bits-2.new.self r
     (record { means = c.in-Ok-emit.ensures.means; does = one_written c.in-Ok-emit.ensures.does none_left })
-    c.emit-bits-2.ensures))
+    c.emit_bits-2.ensures))

@@ -8,7 +8,7 @@ pub returns : goal.returns
 returns g c =
     let coming = g.R.BitSource.coming in
     let z = c.args.zeros in
-    let bits = c.next-bits in
+    let bits = c.next_bits in
     let most : min z 64 ≡ z = omega arith in
     record {
       means = more-bits z (coming c.args.source.now) (coming bits.new.self) (told_bits bits.result) (rw most at bits.ensures.means);
