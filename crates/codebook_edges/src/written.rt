@@ -1,5 +1,6 @@
 // Bits written as text, for tests: a sink that takes as many as the text has room for.
 ghost use Rattle.std.specs.Prelude.{◌≡◌};
+ghost use Rattle.codebook_edges.specs.TextLaws.{text_within};
 ghost use Rattle.codebook_edges.specs.Texts.{TextPut, digit_of, text_sink};
 
 use codebooks::each::emit_each;
@@ -40,6 +41,8 @@ impl<'a> BitSink for WrittenText<'a> {
     ghost held = { λ s. text_sink s.text.now s.len };
 
     ghost emits = { λ s b r t. TextPut s.text.now s.len b r t.text.now t.len };
+
+    ghost within = { λ s. text_within s.text.now s.len };
 
     fn emit(&mut self, bit: bool) -> Result<(), BoundedWriteError> {
         let at = self.len;
