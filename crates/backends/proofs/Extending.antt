@@ -6,7 +6,6 @@ use Rattle.model.specs.Cells.{Place}
 use Rattle.model.specs.declared.refusal.Refusal.{Refusal}
 use Rattle.model.specs.declared.refusal.Refusal.TheVariants.{Full}
 use Rattle.model.specs.Refusals.{Answer}
-use Rattle.model.specs.Stores.{StackWritten}
 use Rattle.backends.specs.Chains.{WroteAll, none_left, one_written, one_refused, Extended}
 
 module _ {S W : Type 0} (writes : S → W → Answer (Unit {0}) → S → Type 0) (places : S → List Place) (capacity : S → ℕ) (place_of : W → Place) (s : S) (xs : List W) where

@@ -1,5 +1,5 @@
 -- A stack is read from its newest place.
-use Rattle.std.proofs.Common.{◌≡◌, ℕ, ◌+◌, ◌<◌, ◌≤◌, List, [], ◌∷◌, ◌++◌, reverse, length, Some, None, Ok, Err, Option, Result, sym, refl, ap, ◌∙◌, subst, arith, length-append}
+use Rattle.std.proofs.Common.{◌≡◌, ℕ, ◌<◌, ◌≤◌, List, [], ◌∷◌, ◌++◌, reverse, length, Some, None, Ok, Err, Option, sym, ap, ◌∙◌, subst, arith, length-append}
 use mathlib.Core.List.{reverse-cons, reverse-reverse}
 use Rattle.model.specs.Cells.{Place, word, fault}
 use Rattle.model.specs.Refusals.{Answer}

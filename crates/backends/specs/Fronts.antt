@@ -1,6 +1,6 @@
 -- The places of a slice before and after a position, one more or one less.
-use Rattle.std.specs.Prelude.{◌≡◌, ℕ, suc, ◌+◌, ◌-◌, ◌^◌, ◌<◌, ◌≤◌, min, List, [], ◌∷◌, ◌++◌, map, reverse, length, take, drop, ◌≢◌, slice_index_or, slice_set, refl}
-use Rattle.std.proofs.Common.{sym, ap, ap₂, subst, ◌∙◌, add-one, arith, length-append, length-set, length-drop}
+use Rattle.std.specs.Prelude.{◌≡◌, ℕ, ◌+◌, ◌-◌, ◌^◌, ◌<◌, ◌≤◌, min, List, [], ◌∷◌, ◌++◌, map, reverse, length, take, drop, ◌≢◌, slice_index_or, slice_set, refl}
+use Rattle.std.proofs.Common.{sym, ap, ap₂, ◌∙◌, add-one, arith, length-append, length-set, length-drop}
 use mathlib.Core.List.{reverse-append, reverse-cons}
 use Rattle.std.proofs.lemmas.List.{take_more, take_more_set, map-append, length-take-le, drop_more, get_or-take, length-map}
 use Rattle.model.specs.Cells.{Place}

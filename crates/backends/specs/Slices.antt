@@ -1,5 +1,5 @@
 -- A slice and a position as a store.
-use Rattle.std.specs.Prelude.{◌≡◌, ℕ, ◌^◌, ◌≤◌, min, List, map, length, take, drop}
+use Rattle.std.specs.Prelude.{ℕ, ◌^◌, ◌≤◌, min, List, map, length, take, drop}
 use Rattle.model.specs.Cells.{Place, word}
 
 -- As many elements of a slice as can be places. (Every opening sees to it that these are all.)

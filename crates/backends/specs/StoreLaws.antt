@@ -1,8 +1,8 @@
 -- The laws of stores whose places are told element by element.
-use Rattle.std.specs.Prelude.{◌≡◌, ℕ, ◌^◌, ◌<◌, List, [], ◌∷◌, ◌++◌, map, reverse, refl}
-use Rattle.std.proofs.Common.{sym, ap, subst, ◌∙◌}
+use Rattle.std.specs.Prelude.{ℕ, List, [], ◌∷◌, ◌++◌, map, reverse}
+use Rattle.std.proofs.Common.{sym, subst}
 use mathlib.Core.List.{reverse-cons}
-use Rattle.model.specs.Cells.{Place, word, Fits}
+use Rattle.model.specs.Cells.{Place, Fits}
 use Rattle.model.specs.Links.{Each}
 use Rattle.backends.specs.Sources.{AllFit}
 

@@ -1,5 +1,5 @@
 -- A codeword in a scratch, and the codeword in the other direction.
-use Rattle.std.proofs.Common.{◌≡◌, ℕ, ◌-◌, ◌≤◌, Bool, List, [], ◌∷◌, ◌++◌, reverse, length, Some, None, Ok, Err, Option, sym, refl, ap, ◌∙◌, subst, arith}
+use Rattle.std.proofs.Common.{◌≡◌, ℕ, ◌≤◌, Bool, List, [], ◌∷◌, ◌++◌, reverse, length, Some, None, Ok, Err, Option, sym, refl, ap, ◌∙◌, subst, arith}
 use mathlib.Core.List.{reverse-reverse}
 use Rattle.std.proofs.lemmas.List.{length-reverse}
 use Rattle.model.specs.Cells.{ahead, bits}

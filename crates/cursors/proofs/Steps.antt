@@ -1,13 +1,13 @@
 -- What a call of a cursor means for its places.
-use Rattle.std.proofs.Common.{◌≡◌, ℕ, ◌+◌, ◌-◌, ◌^◌, ◌<◌, ◌≤◌, min, List, [], ◌∷◌, ◌++◌, reverse, length, get_or, set, Some, None, Ok, Err, Option, Result, sym, refl, ap, ◌∙◌, subst, ap₂, arith, length-set}
-use Rattle.model.specs.Cells.{Place, word}
+use Rattle.std.proofs.Common.{◌≡◌, ℕ, ◌+◌, ◌-◌, ◌^◌, min, List, ◌∷◌, reverse, set, Some, None, Ok, Err, Option, sym, refl, ap, ◌∙◌, ap₂, arith, length-set}
+use Rattle.model.specs.Cells.{word}
 use Rattle.model.specs.Refusals.{Answer}
 use Rattle.model.specs.Stores.{SourceRead, StackWritten, valued}
 use Rattle.cursors.specs.declared.cursor.Cursor.{Cursor}
 use Rattle.backends.specs.Slices.{word_at}
 use Rattle.cursors.specs.Cursors.{CursorPopped, CursorTook, CursorWrote, Holds, at, queued, room_of, stacked}
 use Rattle.backends.specs.Slices.{front, rest, spread}
-use Rattle.backends.specs.Fronts.{how_many, front-more, spread_set, newest_first, none_before, rest_next, none_left}
+use Rattle.backends.specs.Fronts.{how_many, front-more, newest_first, none_before, rest_next, none_left}
 
 module _ {W : Type 0} (v : W → ℕ) (s t : Cursor W) where
   -- a cursor that holds these elements at this position

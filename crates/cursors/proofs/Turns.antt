@@ -1,5 +1,5 @@
 -- The places of a slice that is filled from its end down, and of a slice that is turned.
-use Rattle.std.proofs.Common.{◌≡◌, ℕ, ◌+◌, ◌-◌, ◌^◌, ◌<◌, ◌≤◌, min, List, [], ◌∷◌, ◌++◌, map, reverse, length, take, drop, set, Ok, Err, sym, refl, ap, ◌∙◌, ap₂, arith, length-drop, length-set, take-append-drop, take_all, take_at, drop_at}
+use Rattle.std.proofs.Common.{◌≡◌, ℕ, ◌+◌, ◌-◌, ◌^◌, ◌≤◌, min, List, [], ◌∷◌, ◌++◌, map, reverse, length, take, drop, set, Ok, Err, sym, refl, ap, ◌∙◌, ap₂, arith, length-drop, length-set, take-append-drop, take_all, take_at, drop_at}
 use mathlib.Core.List.{reverse-append, reverse-cons, reverse-reverse}
 use lib.Seq.{take-set-lt}
 use Rattle.std.proofs.lemmas.List.{drop-set, length-take-le, map-append}

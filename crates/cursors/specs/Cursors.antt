@@ -1,6 +1,6 @@
 -- The cursor: a lent slice of words and a position.
-use Rattle.std.specs.Prelude.{◌≡◌, ℕ, ◌+◌, ◌-◌, ◌^◌, ◌<◌, ◌≤◌, List, [], length, Some, None, Ok, Err, Option, Result, slice_index_or, slice_set}
-use Rattle.model.specs.Cells.{Place, word}
+use Rattle.std.specs.Prelude.{◌≡◌, ℕ, ◌+◌, ◌-◌, ◌<◌, ◌≤◌, List, [], length, Some, None, Ok, Err, Option, Result, slice_index_or, slice_set}
+use Rattle.model.specs.Cells.{Place}
 use Rattle.model.specs.declared.refusal.Refusal.TheVariants.{Full}
 use Rattle.model.specs.Refusals.{Answer}
 use Rattle.cursors.specs.declared.cursor.Cursor.{Cursor}

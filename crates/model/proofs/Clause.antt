@@ -1,11 +1,11 @@
 -- The clause's words hold of the codewords and of the parsing process, and the two agree.
-use Rattle.std.proofs.Common.{◌≡◌, ℕ, zero, suc, ◌+◌, ◌-◌, ◌*◌, ◌^◌, ◌<◌, ◌≤◌, Bool, true, false, List, [], ◌∷◌, ◌++◌, length, take, drop, replicate, Some, None, Option, sym, refl, ap, ◌∙◌, subst, ap₂, ⊎_elim, append-nil, add-one, arith, length-append, pow_pos, pow_mono, le-ltb, lt-ltb}
+use Rattle.std.proofs.Common.{◌≡◌, ℕ, zero, suc, ◌+◌, ◌-◌, ◌*◌, ◌^◌, ◌<◌, ◌≤◌, Bool, true, false, List, [], ◌∷◌, ◌++◌, length, take, drop, replicate, Some, None, Option, sym, refl, ap, ◌∙◌, ap₂, ⊎_elim, append-nil, add-one, arith, length-append, pow_pos, pow_mono, le-ltb, lt-ltb}
 use lib.ListN.{length-replicate}
 use Rattle.std.proofs.lemmas.List.{length-take-le, take-append-drop}
 use Rattle.std.proofs.lemmas.Bool.{cases_lt}
 use Rattle.model.specs.Bits.{in_bits, value, zeros}
 use Rattle.model.specs.Codebooks.{Outcome, symbol, refused, short, garbled, Unread, Finds, PrefixFree}
-use Rattle.model.specs.Golomb.{log2, halvings, codeword, code_at, parse_rest, parse, Clause_9_1, ParsingReadsCodewords}
+use Rattle.model.specs.Golomb.{codeword, code_at, parse_rest, parse, Clause_9_1, ParsingReadsCodewords}
 use Rattle.model.proofs.Numbers.{log2_is, two_pow, value_lt}
 use Rattle.model.proofs.Codes.{parts, length-codeword, pow_le, parse-one, parse_none, parse-codeword, parse-found, first_one, rest_many, rest-short, rest_symbol, rest_past}
 

@@ -1,12 +1,12 @@
 -- The Exp-Golomb code: its codewords and its parse.
-use Rattle.std.proofs.Common.{◌≡◌, ℕ, zero, suc, ◌+◌, ◌-◌, ◌*◌, ◌/◌, ◌%◌, ◌^◌, ◌<◌, ◌≤◌, Bool, true, false, cond, eqb, ltb, ◌⊎◌, List, [], ◌∷◌, ◌++◌, reverse, length, take, drop, replicate, Some, None, Option, sym, refl, ap, ◌∙◌, subst, ap₂, inl, inr, ⊎_elim, append_assoc, append-nil, add-zero, add-suc, suc-add, zero-add, add-one, one-add, arith, length-append, length-drop, pow_pos, pow_mono, ltb-false, ltb-true, le-ltb, lt-ltb}
+use Rattle.std.proofs.Common.{◌≡◌, ℕ, zero, suc, ◌+◌, ◌-◌, ◌^◌, ◌<◌, ◌≤◌, Bool, true, false, ◌⊎◌, List, [], ◌∷◌, ◌++◌, reverse, length, take, drop, replicate, sym, refl, ap, ◌∙◌, ap₂, inl, inr, ⊎_elim, append_assoc, append-nil, add-zero, zero-add, add-one, arith, length-append, pow_pos, pow_mono, le-ltb, lt-ltb}
 use mathlib.Core.List.{reverse-cons, reverse-append}
 use lib.ListN.{length-replicate}
-use Rattle.std.proofs.lemmas.List.{take_at, drop_at, length-take-le, take-append-drop, replicate_more}
-use Rattle.std.proofs.lemmas.Bool.{cases_lt, cases_Bool}
+use Rattle.std.proofs.lemmas.List.{take_at, length-take-le, take-append-drop, replicate_more}
+use Rattle.std.proofs.lemmas.Bool.{cases_lt}
 use Rattle.model.specs.Codebooks.{Outcome, symbol, refused, short, garbled}
-use Rattle.model.specs.Bits.{in_bits, bit_value, value}
-use Rattle.model.specs.Golomb.{log2, codeword, code_at, code_num, parse_rest, parse_from, parse}
+use Rattle.model.specs.Bits.{in_bits, value}
+use Rattle.model.specs.Golomb.{log2, codeword, parse_rest, parse_from, parse}
 use Rattle.model.proofs.Numbers.{two_pow, log2_is, log2_of, length-in_bits, in_bits_top, value-in_bits, value_lt, in_bits-value}
 
 -- the codeword, from n + 1 as a power of two and what is left

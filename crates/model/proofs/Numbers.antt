@@ -1,11 +1,10 @@
 -- Numbers in bits, and their logarithm.
-use Rattle.std.proofs.Common.{◌≡◌, ℕ, zero, suc, ◌+◌, ◌-◌, ◌*◌, ◌/◌, ◌%◌, ◌^◌, ◌<◌, ◌≤◌, Bool, true, false, cond, eqb, ltb, ◌⊎◌, List, [], ◌∷◌, ◌++◌, length, take, replicate, sym, refl, ap, ◌∙◌, subst, ap₂, ⊎_elim, append_assoc, append-nil, mod-lt, one-mul, pow-suc, add-one, one-add, arith, length-append, pow_pos, pow_mono, pow-add, shr_lt, le-ltb, lt-ltb, eq-eqb, ne_eqb, eqb-true}
-use native.Mathlib.Nat.{mod-mod, pow-zero}
+use Rattle.std.proofs.Common.{◌≡◌, ℕ, zero, suc, ◌+◌, ◌*◌, ◌/◌, ◌%◌, ◌^◌, ◌<◌, ◌≤◌, Bool, true, false, eqb, List, [], ◌∷◌, ◌++◌, length, replicate, sym, refl, ap, ◌∙◌, ap₂, ⊎_elim, append_assoc, mod-lt, one-mul, pow-suc, add-one, one-add, arith, pow_pos, shr_lt, le-ltb, lt-ltb}
+use native.Mathlib.Nat.{mod-mod}
 use lib.Pow.{field, mod-mod-pow, high, low, split}
-use borrow.Author.Tests.{eqb-false}
 use mir.Val.{bool_byte}
 use Rattle.std.proofs.lemmas.List.{length_push, replicate_more}
-use Rattle.std.proofs.lemmas.Bool.{cases_lt, cases_Bool}
+use Rattle.std.proofs.lemmas.Bool.{cases_lt}
 use Rattle.model.specs.Bits.{in_bits, bit_value, value}
 use Rattle.model.specs.Golomb.{halvings, log2}
 

@@ -1,17 +1,16 @@
 -- The calls of coders are settled by what is held before them.
-use Rattle.std.proofs.Common.{◌≡◌, ℕ, zero, suc, ◌+◌, ◌-◌, ◌%◌, ◌<◌, ◌≤◌, Bool, true, false, ◌⊎◌, List, [], ◌∷◌, ◌++◌, reverse, length, take, Some, None, Ok, Err, Option, Result, sym, refl, ap, ◌∙◌, subst, ap₂, inl, inr, arith, length-append}
+use Rattle.std.proofs.Common.{◌≡◌, ℕ, zero, suc, ◌+◌, ◌%◌, ◌<◌, Bool, true, false, List, [], ◌∷◌, ◌++◌, reverse, length, Some, None, Ok, Err, Option, sym, refl, ap, ◌∙◌, inl, inr, arith, length-append}
 use mathlib.Core.List.{reverse-append, reverse-reverse}
 use lib.ListN.{length-replicate}
-use Rattle.std.proofs.lemmas.List.{append_cancel_left}
 use Rattle.model.specs.declared.refusal.Refusal.{Refusal}
-use Rattle.model.specs.declared.refusal.Refusal.TheVariants.{Full, OffEdge, Unsealed, BadRecord}
+use Rattle.model.specs.declared.refusal.Refusal.TheVariants.{BadRecord}
 use Rattle.model.specs.Bits.{zeros}
 use Rattle.model.specs.Cells.{Cell, bit, bad, bits, ahead, mark}
 use Rattle.model.specs.Codebooks.{Outcome, symbol, refused, short, Decoded}
-use Rattle.model.specs.Coders.{BitWritten, PrefixWritten, SealWritten, FlushWritten, BitRead, SymbolRead, SealTaken, SealMissed, EndsInFault, EndsInZeros, MarkTaken, as_sink}
+use Rattle.model.specs.Coders.{BitWritten, PrefixWritten, SealWritten, FlushWritten, BitRead, SymbolRead, SealTaken, SealMissed, MarkTaken, as_sink}
 use Rattle.model.specs.Refusals.{Answer}
 use Rattle.model.specs.Settled.{Settles, CallsAreSettled}
-use Rattle.model.specs.Sinks.{Sink, Emitted, Encoded}
+use Rattle.model.specs.Sinks.{Sink, Emitted}
 use Rattle.model.proofs.CellLists.{length-bits}
 
 -- ---- ends of lists

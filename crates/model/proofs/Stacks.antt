@@ -1,11 +1,11 @@
 -- Symbols written on a stack are read back.
-use Rattle.std.proofs.Common.{◌≡◌, ℕ, Bool, true, false, cond, List, [], ◌∷◌, ◌++◌, reverse, length, drop, Some, None, Ok, Err, Option, sym, refl, ap, ◌∙◌, subst, ap₂, append_assoc, append-nil, arith}
+use Rattle.std.proofs.Common.{◌≡◌, ℕ, Bool, true, false, cond, List, [], ◌∷◌, ◌++◌, reverse, length, drop, Some, None, Ok, Option, sym, refl, ap, ◌∙◌, subst, ap₂, append_assoc, append-nil, arith}
 use mathlib.Core.List.{reverse-cons, reverse-append, reverse-reverse}
 use Rattle.model.specs.Cells.{Cell, bits, ahead}
 use Rattle.model.specs.Codebooks.{Outcome, symbol, Decoded, Finds}
-use Rattle.model.specs.Coders.{SuffixWritten, SymbolRead}
+use Rattle.model.specs.Coders.{SuffixWritten}
 use Rattle.model.specs.Histories.{State, StackChain, no_call, call_then}
-use Rattle.model.specs.ReadBack.{Sign, Answers, same, stack_writes, stack_reads, StackSymbolsAreReadBack, WordBook, BookWord, book_code, book_outcome, AnyStackSymbolsAreReadBack}
+use Rattle.model.specs.ReadBack.{Sign, Answers, same, stack_writes, stack_reads, StackSymbolsAreReadBack, BookWord, book_code, book_outcome, AnyStackSymbolsAreReadBack}
 use Rattle.model.specs.Refusals.{Answer}
 use Rattle.model.proofs.CellLists.{bits-append, reverse_bits, ahead-bits, drop_bits}
 

@@ -1,5 +1,5 @@
 -- The table codebook: up to 16 codewords of 1 to 16 bits, the symbol being the entry's index from 0.
-use Rattle.std.specs.Prelude.{◌≡◌, ℕ, suc, ◌+◌, ◌≤◌, Bool, true, false, cond, not, ◌&&◌, ◌||◌, List, [], ◌∷◌, ◌++◌, length, Some, None, Option}
+use Rattle.std.specs.Prelude.{◌≡◌, ℕ, suc, ◌≤◌, Bool, true, false, cond, not, ◌&&◌, ◌||◌, List, [], ◌∷◌, ◌++◌, length, Some, None, Option}
 use Rattle.std.specs.List.{slice_get}
 use Rattle.model.specs.Codebooks.{Outcome, symbol, refused, short, dry, garbled}
 

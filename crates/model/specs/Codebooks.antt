@@ -2,7 +2,7 @@
 use Rattle.std.specs.Prelude.{◌≡◌, ℕ, ◌≤◌, Bool, List, [], ◌∷◌, ◌++◌, length, take, drop, Some, Ok, Err, Option}
 use Rattle.model.specs.declared.refusal.Refusal.{Refusal}
 use Rattle.model.specs.declared.refusal.Refusal.TheVariants.{Dry, Garbled, BadRecord}
-use Rattle.model.specs.Cells.{Cell, bit, bad, ahead, beyond, bits}
+use Rattle.model.specs.Cells.{Cell, bit, bad, beyond, bits}
 use Rattle.model.specs.Refusals.{Answer}
 
 -- Why a codebook reads no symbol: the bits end before a codeword is whole, or they begin with none.

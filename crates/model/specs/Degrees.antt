@@ -1,5 +1,5 @@
 -- Degree and ports.
-use Rattle.std.specs.Prelude.{◌≡◌, ℕ, ◌+◌, ◌*◌, ◌/◌, ◌<◌, ◌≤◌, Bool, cond, ◌||◌, ◌⊎◌, List, [], ◌∷◌, Ok, Err, Result, ◌==◌}
+use Rattle.std.specs.Prelude.{◌≡◌, ℕ, ◌+◌, ◌*◌, ◌/◌, ◌<◌, ◌≤◌, Bool, cond, ◌||◌, List, [], ◌∷◌, Ok, Err, Result, ◌==◌}
 use Rattle.model.specs.declared.link.Link.{Link}
 use Rattle.model.specs.declared.refusal.Refusal.TheVariants.{Overspare}
 use Rattle.model.specs.Cells.{Place, Cell}

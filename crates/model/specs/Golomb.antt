@@ -1,5 +1,5 @@
 -- The Exp-Golomb code, ue(v) of ITU-T H.264, clause 9.1: its codewords, and the parsing process, as two definitions.
-use Rattle.std.specs.Prelude.{◌≡◌, ℕ, zero, suc, ◌+◌, ◌-◌, ◌*◌, ◌/◌, ◌^◌, ◌<◌, ◌≤◌, Bool, true, false, cond, List, [], ◌∷◌, ◌++◌, length, take, replicate, Some, None, Option, nat_lt}
+use Rattle.std.specs.Prelude.{◌≡◌, ℕ, zero, suc, ◌+◌, ◌-◌, ◌*◌, ◌/◌, ◌^◌, ◌<◌, ◌≤◌, Bool, true, false, cond, List, [], ◌∷◌, ◌++◌, length, take, Some, None, Option, nat_lt}
 use Rattle.model.specs.Bits.{in_bits, value, zeros}
 use Rattle.model.specs.Codebooks.{Outcome, symbol, refused, short, garbled, Lengths, PrefixFree, Finds, Found, Part}
 

@@ -2,7 +2,7 @@
 -- A codebook is a value b of a type B, and its symbols are of the type Symbol b: so they may differ from codebook to codebook. `code` are
 -- the codewords, `outcome` what decoding comes to.
 use Rattle.std.specs.Prelude.{◌≡◌, ℕ, Bool, List, [], ◌∷◌, Ok, Option}
-use Rattle.model.specs.Cells.{Place, Cell, ahead, cells_of}
+use Rattle.model.specs.Cells.{Place, Cell, ahead}
 use Rattle.model.specs.Codebooks.{Outcome, Decoded}
 use Rattle.model.specs.Coders.{BitWritten, BitRead, SuffixWritten, PrefixWritten, SymbolRead, SealWritten, SealTaken, FlushWritten, AllStored}
 use Rattle.model.specs.Refusals.{Answer}

@@ -1,5 +1,5 @@
 -- Links and sets of links.
-use Rattle.std.specs.Prelude.{◌≡◌, ℕ, ◌^◌, ◌<◌, min, max, Bool, ◌&&◌, ◌||◌, ◌⊎◌, List, [], ◌∷◌, ◌==◌, nat_lt}
+use Rattle.std.specs.Prelude.{◌≡◌, ◌^◌, ◌<◌, min, max, Bool, ◌&&◌, ◌||◌, ◌⊎◌, List, [], ◌∷◌, ◌==◌, nat_lt}
 use Rattle.model.specs.declared.link.Link.{Link}
 use Rattle.model.specs.declared.link.Row.{Row}
 

@@ -1,8 +1,8 @@
 -- Symbols written are read back: after any history, over any store, each symbol with any codebook of its own.
 use Rattle.std.specs.Prelude.{◌≡◌, ℕ, ◌+◌, ◌-◌, Bool, true, cond, List, [], ◌∷◌, ◌++◌, reverse, length, take, Some, None, Ok, Option}
 use Rattle.model.specs.Bits.{zeros}
-use Rattle.model.specs.Cells.{Place, Cell, bits, cells_of}
-use Rattle.model.specs.Codebooks.{Outcome, symbol, Finds}
+use Rattle.model.specs.Cells.{Cell, bits, cells_of}
+use Rattle.model.specs.Codebooks.{Outcome, symbol}
 use Rattle.model.specs.Histories.{State, StackCall, StackChain, EncoderCall, EncoderChain, EncoderStep, DecoderCall, DecoderChain, encode_symbol, decode_symbol, flush}
 use Rattle.model.specs.Refusals.{Answer}
 

@@ -3,7 +3,7 @@ use Rattle.std.specs.Prelude.{◌≡◌, ℕ, ◌<◌, Bool, true, false, List, 
 use Rattle.model.specs.declared.link.Link.{Link}
 use Rattle.model.specs.declared.refusal.Refusal.TheVariants.{Full}
 use Rattle.model.specs.Bits.{zeros}
-use Rattle.model.specs.Cells.{Cell, bit, bits, cells_of, mark, word_places}
+use Rattle.model.specs.Cells.{Cell, bit, bits, cells_of, word_places}
 use Rattle.model.specs.Coders.{BitWritten, SealWritten, SealTaken}
 use Rattle.model.specs.Golomb.{code_at}
 use Rattle.model.specs.Refusals.{Answer}

@@ -1,12 +1,12 @@
 -- The laws of `low_bits` and of a mask's size, over the width.
 
-use Rattle.std.specs.Prelude.{◌≡◌, ℕ, zero, suc, ◌+◌, ◌-◌, ◌*◌, ◌/◌, ◌%◌, ◌^◌, ◌<◌, ◌≤◌, Bool, true, false, cond, List, [], ◌∷◌, ◌++◌, length, replicate, ◌==◌, bit_and, bit_or, bit_xor, refl}
-use Rattle.std.proofs.Common.{sym, ap, ap₂, subst, ◌∙◌, append_assoc, zero-add, add-zero, suc-add, add_comm, one-mul, zero-mul, pow-suc, arith, length-append, pow_pos, add-one}
+use Rattle.std.specs.Prelude.{◌≡◌, ℕ, zero, suc, ◌+◌, ◌-◌, ◌*◌, ◌/◌, ◌%◌, ◌^◌, ◌<◌, ◌≤◌, Bool, true, false, cond, [], ◌∷◌, ◌++◌, length, ◌==◌, bit_and, bit_or, bit_xor, refl}
+use Rattle.std.proofs.Common.{ap, ap₂, ◌∙◌, append_assoc, zero-add, suc-add, one-mul, zero-mul, pow-suc, arith, pow_pos, add-one}
 use Rattle.std.proofs.Math.Arith.{lt-one}
 use Rattle.std.specs.Int.Bits.{block_half, block_odd, and_shifted, and_zero_r, xor_add_and, or_shifted_r}
-use Rattle.std.proofs.lemmas.Nat.{and_comm, and_block, leading_le}
+use Rattle.std.proofs.lemmas.Nat.{and_comm, and_block}
 use Rattle.std.specs.Int.Count.{count_leading_zeros, leading_of_zero, leading_unique}
-use Rattle.std.proofs.Math.Pow.{split, field, mod-mod-pow}
+use Rattle.std.proofs.Math.Pow.{field, mod-mod-pow}
 use Rattle.model.specs.Bits.{low_bits, zeros}
 use Rattle.words.specs.Partials.{size_at, sealed_by}
 

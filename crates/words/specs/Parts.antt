@@ -1,9 +1,8 @@
 -- What each operation of a partial word does to its mask, its word and the bits held, over the width.
 
-use Rattle.std.specs.Prelude.{◌≡◌, ℕ, zero, suc, ◌+◌, ◌-◌, ◌*◌, ◌/◌, ◌%◌, ◌^◌, ◌<◌, ◌≤◌, Bool, true, false, cond, ◌⊎◌, List, [], ◌∷◌, ◌++◌, length, replicate, ◌==◌, ◌≢◌, bit_and, bit_or, bit_xor, refl}
-use Rattle.std.proofs.Common.{sym, ap, subst, ◌∙◌, inl, inr, append_assoc, mod-eq_of_lt, pow-suc, arith, eq-eqb, ne_eqb, eqb-true, true-eqb, false-eqb, pow_pos, pow_mono, shl_exact}
+use Rattle.std.specs.Prelude.{◌≡◌, ℕ, zero, suc, ◌+◌, ◌-◌, ◌*◌, ◌/◌, ◌%◌, ◌^◌, ◌<◌, ◌≤◌, Bool, true, false, List, [], ◌∷◌, ◌++◌, length, ◌==◌, ◌≢◌, bit_and, bit_or, bit_xor, refl}
+use Rattle.std.proofs.Common.{sym, ap, ◌∙◌, inl, inr, mod-eq_of_lt, pow-suc, arith, eq-eqb, ne_eqb, eqb-true, false-eqb, pow_pos, pow_mono, shl_exact}
 use Rattle.std.specs.Int.Count.{count_leading_zeros}
-use Rattle.std.proofs.Math.Pow.{pow-lt}
 use Rattle.std.proofs.lemmas.Bool.{cases_lt}
 use Rattle.std.proofs.lemmas.Nat.{pow_below, one_shl, leading_top}
 use Rattle.model.specs.Bits.{low_bits, zeros}

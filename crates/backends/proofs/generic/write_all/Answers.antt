@@ -1,7 +1,5 @@
-use Rattle.std.proofs.Common.{◌≡◌, Err, ap, ◌∙◌, arith}
+use Rattle.std.proofs.Common.{◌∙◌, arith}
 use Rattle.std.proofs.lemmas.Result.{err_from_is_err_and}
-use Rattle.words.specs.Answers.{write_refusal}
-use Rattle.words.specs.declared.fault.BoundedWriteError.TheVariants.{OutOfSpace}
 use Rattle.backends.specs.Slices.{word_at}
 use Rattle.backends.proofs.Extending.{one_more, refused, no_room, all_written}
 use Rattle.backends.proofs.generic.write_all.Goals as goal

@@ -1,6 +1,5 @@
-use Rattle.std.proofs.Common.{◌≡◌, ℕ, Bool, List, length, replicate, arith}
+use Rattle.std.proofs.Common.{◌≡◌, ℕ, length, replicate, arith}
 use Rattle.std.proofs.lemmas.List.{length-replicate}
-use Rattle.model.specs.Codebooks.{Outcome}
 use Rattle.codebooks.specs.Answers.{decode_refusal}
 use Rattle.bit_streams.proofs.ReadChains.{all_read, drop-replicate, none_yet, not_read, one_more}
 use Rattle.bit_streams.proofs.decode.decode_iid_symbols.Goals as goal

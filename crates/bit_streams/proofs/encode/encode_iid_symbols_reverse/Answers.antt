@@ -1,4 +1,4 @@
-use Rattle.std.proofs.Common.{◌≡◌, ◌+◌, ◌-◌, ◌<◌, length, sym, subst, arith}
+use Rattle.std.proofs.Common.{◌≡◌, ◌+◌, ◌-◌, length, subst, arith}
 use Rattle.codebooks.specs.Answers.{encode_refusal}
 use Rattle.bit_streams.proofs.Chained.{FromEnd, back_done, none_back, one_more_back, refused_back}
 use Rattle.bit_streams.proofs.encode.encode_iid_symbols_reverse.Goals as goal

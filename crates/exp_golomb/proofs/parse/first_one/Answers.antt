@@ -1,4 +1,3 @@
-use Rattle.std.proofs.Common.{◌-◌}
 use Rattle.exp_golomb.proofs.Parsing.{first_one}
 use Rattle.exp_golomb.proofs.parse.first_one.Goals as goal
 

@@ -1,4 +1,4 @@
-use Rattle.std.proofs.Common.{◌-◌, inr, arith}
+use Rattle.std.proofs.Common.{inr, arith}
 use Rattle.model.proofs.Codes.{fits_width}
 use Rattle.exp_golomb.proofs.parse.number_of.Goals as goal
 

@@ -1,4 +1,4 @@
-use Rattle.std.proofs.Common.{◌≡◌, ℕ, ◌-◌, ◌%◌, ◌≤◌, Bool, true, List, [], ◌∷◌, ◌++◌, length, Ok, Err, sym, refl, ap, inr, arith}
+use Rattle.std.proofs.Common.{◌≡◌, ℕ, ◌-◌, ◌%◌, List, [], ◌∷◌, ◌++◌, length, Ok, Err, sym, refl, ap, inr, arith}
 use Rattle.model.specs.declared.refusal.Refusal.TheVariants.{Full}
 use Rattle.model.specs.Cells.{Cell, mark}
 use Rattle.model.specs.Coders.{BitWritten, SealWritten, SealTaken}

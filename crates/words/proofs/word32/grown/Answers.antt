@@ -1,4 +1,3 @@
-use Rattle.std.proofs.Common.{◌<◌}
 use Rattle.words.specs.Parts.{push_one, push_zero, room}
 use Rattle.words.proofs.word32.grown.Goals as goal
 

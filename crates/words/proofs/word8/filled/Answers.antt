@@ -1,4 +1,4 @@
-use Rattle.std.proofs.Common.{◌≡◌, ◌≤◌, length, ◌∙◌, arith}
+use Rattle.std.proofs.Common.{◌≡◌, length, ◌∙◌, arith}
 use Rattle.words.specs.Partials.{held_at}
 use Rattle.words.specs.LowBits.{low_mod}
 use Rattle.words.specs.Parts.{closed_held, held_few, small_word}

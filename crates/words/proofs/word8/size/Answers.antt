@@ -1,4 +1,4 @@
-use Rattle.std.proofs.Common.{◌≡◌, sym, ◌∙◌, arith}
+use Rattle.std.proofs.Common.{sym, ◌∙◌, arith}
 use Rattle.words.specs.Partials.{held_at}
 use Rattle.words.specs.Parts.{held_length, no_bits}
 use Rattle.words.proofs.word8.size.Goals as goal

@@ -1,7 +1,7 @@
-use Rattle.std.proofs.Common.{◌≡◌, ℕ, ◌+◌, ◌-◌, ◌<◌, ◌≤◌, Bool, true, false, List, [], ◌∷◌, ◌++◌, map, length, take, set, sym, refl, ap, ◌∙◌, append-nil, arith, length-set}
+use Rattle.std.proofs.Common.{◌≡◌, Bool, true, false, [], ◌∷◌, ◌++◌, map, length, take, set, sym, refl, ap, ◌∙◌, append-nil, arith, length-set}
 use lib.ListN.{length-map}
 use Rattle.std.proofs.lemmas.List.{length-take-le, map-append, take_all, take_more_set}
-use Rattle.model.specs.Cells.{Cell, bit, bits}
+use Rattle.model.specs.Cells.{bit, bits}
 use Rattle.model.specs.Sinks.{more}
 use Rattle.codebook_edges.specs.Texts.{cell_of, digit_of, text_sink}
 use Rattle.codebook_edges.proofs.written.WrittenTextBitSink.emit.Goals as goal
