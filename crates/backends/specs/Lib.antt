@@ -2,6 +2,7 @@ pub mod Answers
 pub mod Chains
 pub mod Slices
 pub mod Small
+pub mod SmallLaws
 pub mod Sources
 pub mod Texts
 pub mod StoreLaws

@@ -3,7 +3,7 @@ ghost use Rattle.std.specs.Prelude.{◌≡◌, ◌-◌, ◌%◌, ◌^◌, ◌<�
 ghost use Rattle.model.specs.Bits.{low_bits, zeros};
 ghost use Rattle.words.specs.Partials.{IsWord, Single, Unseals, held_at, sealed_by, size_at};
 ghost use Rattle.words.specs.Parts.{held_few};
-ghost use Rattle.std.proofs.Common.{rules, arith};
+ghost use Rattle.std.proofs.Common.{rules};
 
 use crate::fault::BoundedWriteError;
 use crate::part8::Partial8;

@@ -1,11 +1,8 @@
 // The calls of the small store.
-ghost use Rattle.std.specs.Prelude.{◌≡◌, ◌≤◌, [], reverse, length, take, replicate, refl};
-ghost use Rattle.backends.specs.Small.{SmallCount, SmallFree, SmallHolds, SmallLast, SmallPopped, SmallWrote, small_places, small_room, long_word};
-ghost use Rattle.std.proofs.Common.{arith, rules};
-ghost use Rattle.model.specs.Cells.{Fits};
-ghost use Rattle.backends.specs.Slices.{before};
-ghost use Rattle.backends.specs.StoreLaws.{all_fit, each-reverse};
-ghost use Rattle.backends.specs.Fronts.{how_many};
+ghost use Rattle.std.specs.Prelude.{◌≡◌, [], reverse, replicate};
+ghost use Rattle.std.proofs.Common.{rules};
+ghost use Rattle.backends.specs.Small.{SmallCount, SmallFree, SmallHolds, SmallLast, SmallPopped, SmallWrote, small_places, small_room};
+ghost use Rattle.backends.specs.SmallLaws.{small_fits, small_within};
 
 use super::SmallStore;
 use crate::fault::ReadFault;
@@ -99,14 +96,11 @@ impl BoundedWriteWords<u64> for SmallStore {
 }
 
 impl WordSource<u64, Stack> for SmallStore {
-    ghost fits = { λ s. each-reverse (Fits 64) (small_places s) (all_fit 64 long_word (λ x. omega arith) (take (before s.words s.len) s.words)) };
+    ghost fits = { small_fits };
 }
 
 impl WordSink<u64> for SmallStore {
-    ghost within = { λ s.
-        let n = how_many long_word s.words s.len (before s.words s.len) refl in
-        let le : length (small_places s) ≤ 8 = omega arith in
-        le };
+    ghost within = { small_within };
 
     ghost bounded = { Prim.search rules };
 }
