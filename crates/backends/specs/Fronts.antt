@@ -1,4 +1,4 @@
--- The places of a slice before and after a position, one more or one less.
+-- Lemmas: the places of a slice before and after a position, one more or one less.
 use Rattle.std.specs.Prelude.{◌≡◌, ℕ, ◌+◌, ◌-◌, ◌^◌, ◌<◌, ◌≤◌, min, List, [], ◌∷◌, ◌++◌, map, reverse, length, take, drop, ◌≢◌, slice_index_or, slice_set, refl}
 use Rattle.std.proofs.Common.{sym, ap, ap₂, ◌∙◌, add-one, arith, length-append, length-set, length-drop}
 use mathlib.Core.List.{reverse-append, reverse-cons}

@@ -1,5 +1,5 @@
--- The laws of the small store as a source, as a sink and as a stack.
-use Rattle.std.specs.Prelude.{◌≡◌, ℕ, ◌≤◌, reverse, length, take, refl}
+-- Lemmas: the laws of the small store as a source and as a sink.
+use Rattle.std.specs.Prelude.{◌≤◌, reverse, length, take, refl}
 use Rattle.std.proofs.Common.{arith}
 use Rattle.model.specs.Cells.{Fits}
 use Rattle.backends.specs.declared.small.SmallStore.{SmallStore}

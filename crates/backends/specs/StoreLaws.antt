@@ -1,4 +1,4 @@
--- The laws of stores whose places are told element by element.
+-- Lemmas: the laws of stores whose places are told element by element.
 use Rattle.std.specs.Prelude.{ℕ, List, [], ◌∷◌, ◌++◌, map, reverse}
 use Rattle.std.proofs.Common.{sym, subst}
 use mathlib.Core.List.{reverse-cons}

@@ -25,6 +25,19 @@ where
     C::Symbol: Copy,
     ensures { (into : ReadInto (K.ReadBitStream.decodes C.Symbol) stream.old (replicate (length symbols.old) (C.Codebook.outcome book.now)) symbols.old (told_symbols result) symbols.new stream.new) × ReadBefore result (length into.symbols) }
 {
+    decode_iid_each(stream, book, symbols)
+}
+
+// The loop of it.
+fn decode_iid_each<C: DecoderCodebook, K: ReadBitStream>(
+    stream: &mut K,
+    book: &C,
+    symbols: &mut [C::Symbol],
+) -> Result<(), SymbolsError>
+where
+    C::Symbol: Copy,
+    ensures { (into : ReadInto (K.ReadBitStream.decodes C.Symbol) stream.old (replicate (length symbols.old) (C.Codebook.outcome book.now)) symbols.old (told_symbols result) symbols.new stream.new) × ReadBefore result (length into.symbols) }
+{
     for i in 0..symbols.len() {
         match stream.decode_symbol(book) {
             Ok(symbol) => symbols[i] = symbol,

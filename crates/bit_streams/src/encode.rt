@@ -18,6 +18,18 @@ where
     C::Symbol: Copy,
     ensures { WroteAll K.WriteBitStream.encodes stream.old (map (code_of C.Codebook.code) symbols.now) (told_encode result) stream.new }
 {
+    encode_each(stream, symbols)
+}
+
+// The loop of it.
+fn encode_each<C: EncoderCodebook, K: WriteBitStream>(
+    stream: &mut K,
+    symbols: &[(C::Symbol, C)],
+) -> Result<(), CoderError<DefaultEncoderFrontendError, BoundedWriteError>>
+where
+    C::Symbol: Copy,
+    ensures { WroteAll K.WriteBitStream.encodes stream.old (map (code_of C.Codebook.code) symbols.now) (told_encode result) stream.new }
+{
     for i in 0..symbols.len() {
         let pair = &symbols[i];
         match stream.encode_symbol(pair.0, &pair.1) {
@@ -30,6 +42,19 @@ where
 
 // All with one codebook, first to last.
 pub fn encode_iid_symbols<C: EncoderCodebook, K: WriteBitStream>(
+    stream: &mut K,
+    symbols: &[C::Symbol],
+    book: &C,
+) -> Result<(), CoderError<DefaultEncoderFrontendError, BoundedWriteError>>
+where
+    C::Symbol: Copy,
+    ensures { WroteAll K.WriteBitStream.encodes stream.old (map (C.Codebook.code book.now) symbols.now) (told_encode result) stream.new }
+{
+    encode_iid_each(stream, symbols, book)
+}
+
+// The loop of it.
+fn encode_iid_each<C: EncoderCodebook, K: WriteBitStream>(
     stream: &mut K,
     symbols: &[C::Symbol],
     book: &C,
@@ -56,6 +81,18 @@ where
     C::Symbol: Copy,
     ensures { WroteAll K.WriteBitStream.encodes stream.old (reverse (map (code_of C.Codebook.code) symbols.now)) (told_encode result) stream.new }
 {
+    encode_each_reverse(stream, symbols)
+}
+
+// The loop of it.
+fn encode_each_reverse<C: EncoderCodebook, K: WriteBitStream>(
+    stream: &mut K,
+    symbols: &[(C::Symbol, C)],
+) -> Result<(), CoderError<DefaultEncoderFrontendError, BoundedWriteError>>
+where
+    C::Symbol: Copy,
+    ensures { WroteAll K.WriteBitStream.encodes stream.old (reverse (map (code_of C.Codebook.code) symbols.now)) (told_encode result) stream.new }
+{
     let mut left = symbols.len();
     while left > 0 {
         left -= 1;
@@ -70,6 +107,19 @@ where
 
 // All with one codebook, last to first.
 pub fn encode_iid_symbols_reverse<C: EncoderCodebook, K: WriteBitStream>(
+    stream: &mut K,
+    symbols: &[C::Symbol],
+    book: &C,
+) -> Result<(), CoderError<DefaultEncoderFrontendError, BoundedWriteError>>
+where
+    C::Symbol: Copy,
+    ensures { WroteAll K.WriteBitStream.encodes stream.old (reverse (map (C.Codebook.code book.now) symbols.now)) (told_encode result) stream.new }
+{
+    encode_iid_each_reverse(stream, symbols, book)
+}
+
+// The loop of it.
+fn encode_iid_each_reverse<C: EncoderCodebook, K: WriteBitStream>(
     stream: &mut K,
     symbols: &[C::Symbol],
     book: &C,

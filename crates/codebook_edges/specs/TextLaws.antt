@@ -1,4 +1,4 @@
--- The law of a text as a sink.
+-- Lemma: the law of a text as a sink.
 use Rattle.std.specs.Prelude.{ℕ, ◌≤◌, List, length, take}
 use Rattle.std.proofs.Common.{arith}
 use Rattle.std.proofs.lemmas.List.{length-map, length-take}

@@ -1,4 +1,4 @@
--- The laws of the cursor and of the reversed cursor as sources, sinks and stacks.
+-- Lemmas: the laws of the cursor and of the reversed cursor as sources, sinks and stacks.
 use Rattle.std.specs.Prelude.{◌≡◌, ℕ, ◌^◌, ◌<◌, ◌≤◌, reverse, length, take, drop, Some, None, Ok, Err, Option, refl}
 use Rattle.std.proofs.Common.{sym, ap, arith}
 use mathlib.Core.List.{reverse-reverse}

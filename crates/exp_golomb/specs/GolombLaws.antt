@@ -1,4 +1,4 @@
--- The laws of a codebook, for the Exp-Golomb code at any word type.
+-- Lemmas: the laws of a codebook, for the Exp-Golomb code at any word type.
 use Rattle.std.proofs.Common.{◌≡◌, ℕ, ◌≤◌, Bool, List, length, Option, sym, ap, ◌∙◌, arith}
 use Rattle.model.specs.Codebooks.{Finds, Found, Lengths, Outcome, Part, PrefixFree, Unread, on_symbol, refused, short, symbol}
 use Rattle.model.specs.Golomb.{code_at, parse}

@@ -24,7 +24,7 @@ abbrev pub codewords : List ℕ → List Bool
 codewords [] = []
 codewords (n ∷ ns) = codeword n ++ codewords ns
 
--- code_num = 2 ^ leadingZeroBits - 1 + read_bits (leadingZeroBits), where these bits come
+-- codeNum = 2 ^ leadingZeroBits - 1 + read_bits (leadingZeroBits), where these bits come
 abbrev pub code_num : ℕ → List Bool → ℕ
 code_num leadingZeroBits coming = (2 ^ leadingZeroBits - 1) + value (take leadingZeroBits coming)
 
@@ -50,7 +50,7 @@ parse B coming = parse_from B 0 coming
 pub record Clause_9_1 : Type 0 where
   -- with k = floor (log2 (n + 1)): k zeros, then n + 1 in k + 1 bits
   pub codewords : (n k : ℕ) → 2 ^ k ≤ n + 1 → n + 1 < 2 ^ (k + 1) → codeword n ≡ zeros k ++ in_bits (k + 1) (n + 1)
-  -- code_num = 2 ^ leadingZeroBits - 1 + read_bits (leadingZeroBits)
+  -- codeNum = 2 ^ leadingZeroBits - 1 + read_bits (leadingZeroBits)
   pub code_nums : (B z : ℕ) (v rest : List Bool) → z < B → length v ≡ z → parse B (zeros z ++ (true ∷ (v ++ rest))) ≡ symbol ((2 ^ z - 1) + value v) (2 * z + 1)
   -- B zeros: the largest number alone is one of B bits
   pub largest : (B : ℕ) (rest : List Bool) → parse B (zeros B ++ (true ∷ (zeros B ++ rest))) ≡ symbol (2 ^ B - 1) (2 * B + 1)

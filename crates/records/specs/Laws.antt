@@ -1,4 +1,4 @@
--- The laws of the record store as a sink and as a stack.
+-- Lemmas: the laws of the record store as a sink and as a stack.
 use Rattle.std.proofs.Common.{◌≡◌, ℕ, ◌^◌, ◌≤◌, length, Some, None, Ok, Err, Option, refl, ap, arith}
 use Rattle.model.specs.Refusals.{Answer}
 use Rattle.records.specs.declared.store.RecordStore.{RecordStore}

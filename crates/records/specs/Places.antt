@@ -1,4 +1,4 @@
--- The places of byte records before and after a record number.
+-- Lemmas: the places of byte records before and after a record number.
 use Rattle.std.proofs.Common.{◌≡◌, ℕ, ◌+◌, ◌-◌, ◌*◌, ◌/◌, ◌^◌, ◌<◌, ◌≤◌, min, Bool, true, false, cond, eqb, List, [], ◌∷◌, reverse, length, get_or, take, drop, sym, ap, ◌∙◌, arith}
 use lib.Count.{ones}
 use Rattle.std.proofs.lemmas.List.FromFn.{length-range_with_len, get_or-range_with_len}

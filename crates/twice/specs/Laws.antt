@@ -1,4 +1,4 @@
--- The laws of the store as a sink and as a stack.
+-- Lemmas: the laws of the store as a sink and as a stack.
 use Rattle.std.specs.Prelude.{◌≡◌, ℕ, ◌^◌, ◌≤◌, length, Some, None, Ok, Err, Option, refl}
 use Rattle.std.proofs.Common.{ap, arith}
 use Rattle.model.specs.Refusals.{Answer}

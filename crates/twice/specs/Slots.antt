@@ -1,4 +1,4 @@
--- The places before a position, one more or one less.
+-- Lemmas: the places before a position, one more or one less.
 use Rattle.std.proofs.Common.{◌≡◌, ℕ, ◌+◌, ◌-◌, ◌*◌, ◌/◌, ◌%◌, ◌^◌, ◌<◌, min, Bool, true, false, cond, eqb, List, [], ◌∷◌, ◌++◌, map, reverse, length, get_or, set, sym, refl, ap, ◌∙◌, ap₂, arith, eq-eqb}
 use mathlib.Core.List.{reverse-append}
 use Rattle.std.specs.List.{range_with_len}

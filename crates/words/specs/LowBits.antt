@@ -1,4 +1,4 @@
--- The laws of `low_bits` and of a mask's size, over the width.
+-- Lemmas: the laws of `low_bits` and of a mask's size, over the width.
 
 use Rattle.std.specs.Prelude.{◌≡◌, ℕ, zero, suc, ◌+◌, ◌-◌, ◌*◌, ◌/◌, ◌%◌, ◌^◌, ◌<◌, ◌≤◌, Bool, true, false, cond, [], ◌∷◌, ◌++◌, length, ◌==◌, bit_and, bit_or, bit_xor, refl}
 use Rattle.std.proofs.Common.{ap, ap₂, ◌∙◌, append_assoc, zero-add, suc-add, one-mul, zero-mul, pow-suc, arith, pow_pos, add-one}

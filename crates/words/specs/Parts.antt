@@ -1,4 +1,4 @@
--- What each operation of a partial word does to its mask, its word and the bits held, over the width.
+-- Lemmas: what each operation of a partial word does to its mask, its word and the bits held, over the width.
 
 use Rattle.std.specs.Prelude.{◌≡◌, ℕ, zero, suc, ◌+◌, ◌-◌, ◌*◌, ◌/◌, ◌%◌, ◌^◌, ◌<◌, ◌≤◌, Bool, true, false, List, [], ◌∷◌, ◌++◌, length, ◌==◌, ◌≢◌, bit_and, bit_or, bit_xor, refl}
 use Rattle.std.proofs.Common.{sym, ap, ◌∙◌, inl, inr, mod-eq_of_lt, pow-suc, arith, eq-eqb, ne_eqb, eqb-true, false-eqb, pow_pos, pow_mono, shl_exact}

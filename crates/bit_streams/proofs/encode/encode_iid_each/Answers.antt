@@ -1,7 +1,7 @@
 use Rattle.std.proofs.Common.{arith}
 use Rattle.codebooks.specs.Answers.{encode_refusal}
 use Rattle.bit_streams.proofs.Chained.{all_written, one_more, refused}
-use Rattle.bit_streams.proofs.encode.encode_iid_symbols.Goals as goal
+use Rattle.bit_streams.proofs.encode.encode_iid_each.Goals as goal
 
 pub returns-in-Err : goal.returns-in-Err
 returns-in-Err g c =

@@ -2,7 +2,7 @@ use Rattle.std.proofs.Common.{◌≡◌, ℕ, length, replicate, arith}
 use Rattle.std.proofs.lemmas.List.{length-replicate}
 use Rattle.codebooks.specs.Answers.{decode_refusal}
 use Rattle.bit_streams.proofs.ReadChains.{all_read, drop-replicate, none_yet, not_read, one_more}
-use Rattle.bit_streams.proofs.decode.decode_iid_symbols.Goals as goal
+use Rattle.bit_streams.proofs.decode.decode_iid_each.Goals as goal
 
 -- as many outcomes as slots, all of one codebook
 many : {A : Type 0} (n : ℕ) (o : A) → length (replicate n o) ≡ n

@@ -1,7 +1,7 @@
 use Rattle.std.proofs.Common.{◌≤◌, length}
 use Rattle.bit_streams.specs.Several.{code_of}
 use Rattle.bit_streams.proofs.Chained.{FromEnd}
-use Rattle.bit_streams.proofs.encode.encode_symbols_reverse.Given as goal
+use Rattle.bit_streams.proofs.encode.encode_each_reverse.Given as goal
 
 abbrev pub invariant-loop-left : goal.invariant-loop-left
 invariant-loop-left g l = (l.left ≤ length l.symbols) × FromEnd g.K.WriteBitStream.encodes (code_of g.C.Codebook.code) l.initial.stream l.symbols l.left l.stream

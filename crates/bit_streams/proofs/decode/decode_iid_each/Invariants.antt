@@ -1,6 +1,6 @@
 use Rattle.std.proofs.Common.{length, replicate}
 use Rattle.bit_streams.proofs.ReadChains.{ReadSoFar}
-use Rattle.bit_streams.proofs.decode.decode_iid_symbols.Given as goal
+use Rattle.bit_streams.proofs.decode.decode_iid_each.Given as goal
 
 abbrev pub invariant-loop-i : goal.invariant-loop-i
 invariant-loop-i g l = ReadSoFar (g.K.ReadBitStream.decodes g.row.C-Symbol.Denot) l.initial.stream (replicate (length l.initial.symbols) (g.C.Codebook.outcome l.book)) l.initial.symbols l.i l.symbols l.stream

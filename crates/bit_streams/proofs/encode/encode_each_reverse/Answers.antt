@@ -2,7 +2,7 @@ use Rattle.std.proofs.Common.{◌≡◌, ◌+◌, ◌-◌, length, subst, arith}
 use Rattle.codebooks.specs.Answers.{encode_refusal}
 use Rattle.bit_streams.specs.Several.{code_of}
 use Rattle.bit_streams.proofs.Chained.{FromEnd, back_done, none_back, one_more_back, refused_back}
-use Rattle.bit_streams.proofs.encode.encode_symbols_reverse.Goals as goal
+use Rattle.bit_streams.proofs.encode.encode_each_reverse.Goals as goal
 
 pub loop-left-init : goal.loop-left-init
 loop-left-init g c = (omega arith, none_back g.K.WriteBitStream.encodes (code_of g.C.Codebook.code) c.args.stream.now c.args.symbols.now (length c.args.symbols.now) (omega arith))
