@@ -14,9 +14,9 @@ use Rattle.model.proofs.examples.worked_examples.Goals as goal
 given : (P : Answer (Unit {0}) → List Cell → Type 0) → Settles P → (r : Answer (Unit {0})) (h : List Cell) → P r h → Gives P r h
 given P one r h p = record { does = p; only = λ q k x. one q r k h x p }
 
-pub returns : goal.returns
+pub returns-clause-examples : goal.returns-clause-examples
 unfolding halvings log2 codeword code_at step_to link_at sealed words_of sealed_words
-returns c =
+returns-clause-examples c =
     let one = calls_are_settled ℕ in
     record {
       code_of_0 = refl;
