@@ -12,7 +12,10 @@ use words::fault::BoundedWriteError;
 use words::{PartialWord, Word};
 
 // The codeword of a number, first bit first.
-pub fn emit_codeword<N: Word, K: BitsSink>(symbol: N, sink: &mut K) -> Result<(), BoundedWriteError>
+pub(crate) fn emit_codeword<N: Word, K: BitsSink>(
+    symbol: N,
+    sink: &mut K,
+) -> Result<(), BoundedWriteError>
     ensures { Coded K.BitSink.held K.BitSink.emits (code_at N.Partial.PartialWord.width (N.Word.number symbol)) sink.old (told_write result) sink.new }
 {
     let parts = parts_of(symbol);
@@ -20,7 +23,10 @@ pub fn emit_codeword<N: Word, K: BitsSink>(symbol: N, sink: &mut K) -> Result<()
 }
 
 // The same, last bit first.
-pub fn emit_reversed<N: Word, K: BitsSink>(symbol: N, sink: &mut K) -> Result<(), BoundedWriteError>
+pub(crate) fn emit_reversed<N: Word, K: BitsSink>(
+    symbol: N,
+    sink: &mut K,
+) -> Result<(), BoundedWriteError>
     ensures { Coded K.BitSink.held K.BitSink.emits (reversed (code_at N.Partial.PartialWord.width (N.Word.number symbol))) sink.old (told_write result) sink.new }
 {
     let parts = parts_of(symbol);

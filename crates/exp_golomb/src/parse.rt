@@ -12,7 +12,7 @@ use codebooks::fault::{CoderError, SymbolCodeError};
 use codebooks::streams::{BitSource, BitsRead, BitsSource};
 
 // Parses the codeword of a number of `width` bits: the zeros up to the first one bit, then as many bits again.
-pub fn parse_number<R: BitsSource>(
+pub(crate) fn parse_number<R: BitsSource>(
     source: &mut R,
     width: u32,
 ) -> Result<u64, CoderError<SymbolCodeError, ReadFault>>
