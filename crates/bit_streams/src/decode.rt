@@ -9,7 +9,7 @@ use codebooks::book::{Codebook, DecoderCodebook};
 use codebooks::fault::{CoderError, SymbolCodeError};
 
 // A symbol is not read: why, and how many were read before it.
-#[derive(Clone, Copy)]
+#[derive(Clone, Copy, PartialEq, Eq, Debug)]
 pub struct SymbolsError {
     pub read: usize,
     pub error: CoderError<SymbolCodeError, ReadFault>,

@@ -35,3 +35,9 @@ text_sink text len = record { taken = map cell_of (take len text); limit = lengt
 abbrev pub TextPut : List ℕ → ℕ → Bool → Answer (Unit {0}) → List ℕ → ℕ → Type 0
 TextPut text len b (Ok _) text' len' = (text' ≡ slice_set text len (digit_of b)) × (len' ≡ len + 1)
 TextPut text len b (Err e) text' len' = (text' ≡ text) × (len' ≡ len)
+
+-- A read moves past the bit that it answers; at the end and at a fault nothing changes.
+abbrev pub TextRead : List ℕ → ℕ → Answer (Option Bool) → List ℕ → ℕ → Type 0
+TextRead text next (Ok (Some b)) text' next' = (text' ≡ text) × (next' ≡ next + 1)
+TextRead text next (Ok None) text' next' = (text' ≡ text) × (next' ≡ next)
+TextRead text next (Err e) text' next' = (text' ≡ text) × (next' ≡ next)

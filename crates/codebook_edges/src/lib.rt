@@ -1,6 +1,7 @@
 // Tests of the codebooks at their edges.
 #![tactic(auto)]
 
+mod streams;
 mod text;
 mod written;
 
@@ -11,11 +12,16 @@ pub use written::WrittenText;
 mod tests {
     use super::{BitText, WrittenText};
     use backends::fault::ReadFault;
+    use bit_streams::decode::{SymbolsError, decode_iid_symbols};
+    use bit_streams::encode::{
+        encode_iid_symbols, encode_iid_symbols_reverse, encode_symbols, encode_symbols_reverse,
+    };
     use codebooks::book::{DecoderCodebook, EncoderCodebook};
     use codebooks::fault::{CoderError, SymbolCodeError};
     use exp_golomb::ExpGolomb;
     use std::process::Abort;
     use std::test::Fail;
+    use words::fault::BoundedWriteError;
     use words::{PartialWord, Word};
 
     // What decoding came to.
@@ -309,5 +315,50 @@ mod tests {
         let mut sink = WrittenText::new(&mut text);
         assert!(rt; book.encode_symbol_suffix(9, &mut sink).is_ok());
         assert!(rt; same(&text, b"0101000"));
+    }
+    // Symbols one after the other: 0 is 1, 7 is 0001000 and 1 is 010. The first that does not fit ends it, and what fits of it stays.
+    #[test]
+    fn several_symbols_are_written(rt: HostRuntime) {
+        let book = ExpGolomb::<u8>::new();
+        let pairs = [(0, book), (7, book), (1, book)];
+        let mut text = [b'-'; 12];
+        let mut sink = WrittenText::new(&mut text);
+        assert!(rt; encode_symbols(&mut sink, &pairs).is_ok());
+        assert_eq!(rt; sink.taken(), 11);
+        assert!(rt; same(&text, b"10001000010-"));
+        let mut text = [b'-'; 11];
+        assert!(rt; encode_symbols_reverse(&mut WrittenText::new(&mut text), &pairs).is_ok());
+        assert!(rt; same(&text, b"01000010001"));
+        let mut text = [b'-'; 11];
+        assert!(rt;
+            encode_iid_symbols(&mut WrittenText::new(&mut text), &[0, 7, 1], &book).is_ok()
+        );
+        assert!(rt; same(&text, b"10001000010"));
+        let mut text = [b'-'; 11];
+        let sent = encode_iid_symbols_reverse(&mut WrittenText::new(&mut text), &[0, 7, 1], &book);
+        assert!(rt; sent.is_ok());
+        assert!(rt; same(&text, b"01000010001"));
+        let mut text = [b'-'; 5];
+        let full = CoderError::Backend(BoundedWriteError::OutOfSpace);
+        let sent = encode_iid_symbols(&mut WrittenText::new(&mut text), &[0, 7, 1], &book);
+        assert_eq!(rt; sent, Err(full));
+        assert!(rt; same(&text, b"10001"));
+    }
+
+    // And read: the slots of symbols that are not read stay as they are.
+    #[test]
+    fn several_symbols_are_read(rt: HostRuntime) {
+        let book = ExpGolomb::<u8>::new();
+        let mut symbols: [u8; 3] = [9, 9, 9];
+        let read = decode_iid_symbols(&mut BitText::new(b"10001000010"), &book, &mut symbols);
+        assert!(rt; read.is_ok());
+        assert!(rt; same(&symbols, &[0, 7, 1]));
+        let mut symbols: [u8; 3] = [9, 9, 9];
+        let mut source = BitText::new(b"100010");
+        let read = decode_iid_symbols(&mut source, &book, &mut symbols);
+        let error = CoderError::Frontend(SymbolCodeError::InvalidCodeword);
+        assert_eq!(rt; read, Err(SymbolsError { read: 1, error }));
+        assert_eq!(rt; source.taken(), 6);
+        assert!(rt; same(&symbols, &[0, 9, 9]));
     }
 }

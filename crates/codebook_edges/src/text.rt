@@ -1,6 +1,6 @@
 // Bits as text, for tests: a source that reads '0' and '1', and any other byte as a fault of that number; and a sink that writes them.
 ghost use Rattle.std.specs.Prelude.{◌≡◌, ◌≤◌};
-ghost use Rattle.codebook_edges.specs.Texts.{ByteAt, cells_from};
+ghost use Rattle.codebook_edges.specs.Texts.{ByteAt, TextRead, cells_from};
 
 use backends::fault::ReadFault;
 use codebooks::each::{read_each, read_to_one};
@@ -42,7 +42,7 @@ impl<'a> BitText<'a> {
 impl<'a> BitSource for BitText<'a> {
     ghost coming = { λ t. cells_from t.text.now t.next };
 
-    ghost reads = { λ s _ t. t.text.now ≡ s.text.now };
+    ghost reads = { λ s r t. TextRead s.text.now s.next r t.text.now t.next };
 
     fn next_bit(&mut self) -> Result<Option<bool>, ReadFault> {
         let Some(byte) = self.byte() else {
