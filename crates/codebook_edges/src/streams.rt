@@ -1,8 +1,8 @@
 // Symbols written to a text and read from one, first bit first.
 ghost use Rattle.model.specs.Cells.{ahead};
 ghost use Rattle.model.specs.Codebooks.{Decoded};
-ghost use Rattle.codebooks.specs.Chains.{HandedOver};
-ghost use Rattle.codebook_edges.specs.Texts.{TextPut, cells_from};
+ghost use Rattle.codebooks.specs.Chains.{HandedOver, Reached};
+ghost use Rattle.codebook_edges.specs.Texts.{TextPut, TextRead, cells_from};
 
 use super::text::BitText;
 use super::written::WrittenText;
@@ -25,7 +25,9 @@ impl<'a> WriteBitStream for WrittenText<'a> {
 }
 
 impl<'a> ReadBitStream for BitText<'a> {
-    ghost decodes = { λ X s o r t. Decoded (o (ahead (cells_from s.text.now s.next))) (cells_from s.text.now s.next) r (cells_from t.text.now t.next) };
+    ghost decodes = { λ X s o r t.
+        Decoded (o (ahead (cells_from s.text.now s.next))) (cells_from s.text.now s.next) r (cells_from t.text.now t.next)
+        × Reached (λ s r t. TextRead s.text.now s.next r t.text.now t.next) s t };
 
     fn decode_symbol<C: DecoderCodebook>(
         &mut self,
