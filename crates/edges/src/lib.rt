@@ -8,6 +8,7 @@ mod tests {
     use links::table::LinkTable;
     use model::link::*;
     use model::refusal::*;
+    use std::test::Fail;
 
     const GREATEST: u32 = 4294967295;
 
@@ -208,18 +209,36 @@ mod tests {
 
     #[test]
     fn refusals(rt: HostRuntime) {
-        let full = TableFault::TableFull.refusal();
-        let unfinished = RowFault::Ragged.refusal();
-        assert_eq!(rt; full.number(), 9);
+        let full = Refusal::from(TableFault::TableFull);
+        let unfinished = Refusal::from(RowFault::Ragged);
+        assert_eq!(rt; u8::from(full), 9);
         assert_eq!(rt;
-            RowFault::Table(TableFault::SelfLink).refusal().number(),
+            u8::from(Refusal::from(RowFault::Table(TableFault::SelfLink))),
             10
         );
-        assert_eq!(rt; unfinished.number(), 12);
-        assert_eq!(rt; Refusal::BadRecord(7).number(), 8);
-        assert_eq!(rt; Refusal::Overspare.number(), 15);
+        assert_eq!(rt; u8::from(unfinished), 12);
+        assert_eq!(rt; u8::from(Refusal::BadRecord(7)), 8);
+        assert_eq!(rt; u8::from(Refusal::Overspare), 15);
         assert_eq!(rt; full.word(), "table full");
         assert_eq!(rt; unfinished.word(), "ragged");
         assert_eq!(rt; Refusal::BadRecord(0).word(), "bad record");
+    }
+
+    #[test]
+    fn shown(rt: HostRuntime) -> Result<(), Fail> {
+        let link = format!(in rt.alloc(); "{}", Link::from(row(GREATEST, 7)))?;
+        assert_eq!(rt; link.as_str(), "7-4294967295");
+        let refusal = format!(in rt.alloc(); "{}", Refusal::OffEdge)?;
+        assert_eq!(rt; refusal.as_str(), "off edge");
+        Ok(())
+    }
+
+    #[test]
+    fn all_links(rt: HostRuntime) {
+        let mut table = LinkTable::new();
+        assert_eq!(rt; table.add(row(3, 2)), Ok(Added::New));
+        assert_eq!(rt; table.add(row(0, 3)), Ok(Added::New));
+        let links = [Link { low: 0, high: 3 }, Link { low: 2, high: 3 }];
+        assert_eq!(rt; table.links(), links.as_slice());
     }
 }

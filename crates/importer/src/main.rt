@@ -3,6 +3,7 @@
 
 use links::answer::RowsAdded;
 use links::table::LinkTable;
+use model::refusal::Refusal;
 use std::io;
 use std::io::Read;
 
@@ -15,7 +16,7 @@ fn main(rt: HostRuntime) -> io::Result<()> {
     match table.add_rows(&bytes) {
         Ok(added) => report(&rt, &table, added),
         Err(stop) => {
-            let number = stop.fault.refusal().number();
+            let number = u8::from(Refusal::from(stop.fault));
             let row = stop.row;
             println!(rt; "refused {number} row {row}")
         }
@@ -24,18 +25,11 @@ fn main(rt: HostRuntime) -> io::Result<()> {
 
 // How many rows were read, links kept and rows repeated a link; then the links, ascending.
 fn report(rt: &impl Print, table: &LinkTable, added: RowsAdded) -> io::Result<()> {
-    let rows = added.rows;
-    let kept = table.len();
-    let repeats = added.repeats;
-    println!(rt; "rows read {rows}")?;
-    println!(rt; "links kept {kept}")?;
-    println!(rt; "repeats {repeats}")?;
-    for i in 0..kept {
-        if let Some(link) = table.get(i) {
-            let low = link.low;
-            let high = link.high;
-            println!(rt; "{low}-{high}")?;
-        }
+    println!(rt; "rows read {}", added.rows)?;
+    println!(rt; "links kept {}", table.len())?;
+    println!(rt; "repeats {}", added.repeats)?;
+    for link in table.links() {
+        println!(rt; "{link}")?;
     }
     Ok(())
 }

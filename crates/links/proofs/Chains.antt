@@ -6,6 +6,7 @@ use Rattle.model.specs.declared.link.Link.{Link}
 use Rattle.model.specs.declared.refusal.Refusal.TheVariants.{TableFull}
 use Rattle.model.specs.Links.{In, SameLinks, Before, before, IsLink, is_link, Each, Ascending, AscendingFrom, LinkSet}
 use Rattle.model.specs.Rows.{settled, Named, Names}
+use Rattle.model.proofs.Steps.{same_list}
 use Rattle.links.specs.declared.answer.Added.{Added}
 use Rattle.links.specs.declared.answer.TableFault.{TableFault}
 use Rattle.links.specs.declared.answer.TableFault.TheVariants.{SelfLink as SelfLinked, TableFull as Filled}
@@ -15,7 +16,7 @@ use Rattle.links.specs.Histories.{RowCall, rows_of, RowChain, no_row, row_then, 
 use Rattle.links.specs.Order.{before_all, ascending, proper}
 use Rattle.links.specs.Rows.{answer_to, links_after_rows}
 use Rattle.links.specs.Tables.{links_of}
-use Rattle.links.proofs.Laws.{rows_settle, row_adds, same_list}
+use Rattle.links.proofs.Laws.{rows_settle, row_adds}
 use Rattle.links.proofs.Same.{same_table}
 
 -- the tests of a table's type say that its links are a link set
@@ -88,7 +89,7 @@ module _ (new : LinkTable) (none : links_of new ≡ []) where
     named = names;
     equal = λ calls others t u c d n m s.
         same_table t u (
-        same_list (links_of t) (links_of u) t.order u.order (λ l. (
+        same_list (links_of t) (links_of u) (link_set t).1 (link_set u).1 (λ l. (
           λ i. (names others u d m l).1 ((s l).0 ((names calls t c n l).0 i)),
           λ i. (names calls t c n l).1 ((s l).1 ((names others u d m l).0 i)),
         )));

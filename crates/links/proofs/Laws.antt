@@ -1,18 +1,18 @@
 -- The laws over whole histories.
 use Rattle.std.proofs.Common.{◌≡◌, ℕ, suc, Bool, true, false, cond, not, ◌&&◌, ◌||◌, eqb, leb, ◌⊎◌, List, [], ◌∷◌, length, Ok, Err, sym, refl, ap, ◌∙◌, subst, inl, inr, ⊎_elim, arith}
 use Rattle.std.proofs.lemmas.Bool.Decides.{nat_tests}
-use Rattle.std.proofs.lemmas.Bool.{and_parts, cases_Bool, both_ways, cond-true, cond-false, cond_both, ne_eqb, eq-eqb, or_left, or_from, cases_eq}
+use Rattle.std.proofs.lemmas.Bool.{cases_Bool, both_ways, cond-true, cond-false, cond_both, ne_eqb, eq-eqb, or_left, or_from, cases_eq}
 use Rattle.model.specs.declared.link.Link.{Link}
 use Rattle.model.specs.declared.link.Row.{Row}
 use Rattle.links.specs.declared.answer.Added.{Added}
 use Rattle.links.specs.declared.answer.Added.TheVariants.{New, Already}
 use Rattle.model.specs.declared.refusal.Refusal.TheVariants.{SelfLink, TableFull}
 use Rattle.model.specs.Refusals.{Answer}
-use Rattle.links.specs.Order.{before_all, ascending, insert_link}
+use Rattle.links.specs.Order.{ascending, insert_link}
 use Rattle.links.specs.Rows.{answer_to, links_after, links_after_rows, full_for}
 use Rattle.model.specs.Links.{In, SameLinks, link_of}
 use Rattle.model.specs.Rows.{is_in, settle, settle_rows, settled, Names}
-use Rattle.links.proofs.Order.{is_in-in, in-is_in, not_is_in, before_asym, before_all-in, before_all_not_in}
+use Rattle.links.proofs.Order.{is_in-in, in-is_in, not_is_in}
 use Rattle.links.proofs.Insert.{insert_in, in_insert, insert_has, insert_keeps, ascending_insert, length-insert}
 
 pub ascending_after : (xs : List Link) (r : Row) → ascending xs ≡ true → ascending (links_after xs r) ≡ true
@@ -68,29 +68,6 @@ agree_none = record { up = refl; same = λ l. (λ i. i, λ i. i); count = refl }
 
 pub rows_settle : (rs : List Row) → SameLinks (links_after_rows [] rs) (settled rs) × (length (links_after_rows [] rs) ≡ length (settled rs))
 rows_settle rs = let a = agree_rows [] [] rs agree_none in (a.same, a.count)
-
--- ascending lists of the same links are the same list
-pub same_list : (xs ys : List Link) → ascending xs ≡ true → ascending ys ≡ true → SameLinks xs ys → xs ≡ ys
-same_list [] [] h k s = refl
-same_list [] (y ∷ ys) h k s = absurd ((s y).1 (inl refl))
-same_list (x ∷ xs) [] h k s = absurd ((s x).0 (inl refl))
-same_list (x ∷ xs) (y ∷ ys) h k s =
-    let hs = and_parts (before_all x xs) (ascending xs) h in
-    let ks = and_parts (before_all y ys) (ascending ys) k in
-    let e : x ≡ y =
-    ⊎_elim (λ e. e) (λ i.
-    ⊎_elim (λ e. sym e) (λ j.
-    absurd (before_asym x y (before_all-in x xs y hs.0 j) (before_all-in y ys x ks.0 i))) ((s y).1 (inl refl))) ((s x).0 (inl refl))
-    in
-    let tails : SameLinks xs ys =
-    λ m. (
-      λ i. ⊎_elim (λ f. absurd (before_all_not_in x xs hs.0 (subst (λ (z : Link). In z xs) (f ∙ sym e) i))) (λ j. j) ((s m).0 (inr i)),
-      λ i.
-          ⊎_elim (λ f. absurd (before_all_not_in y ys ks.0 (subst (λ (z : Link). In z ys) (f ∙ e) i))) (λ j. j) ((s m).1 (inr i)),
-    )
-    in
-    let rest = same_list xs ys hs.1 ks.1 tails in
-    cc
 
 -- a link that a row names is the row's link
 names_link : (r : Row) (l : Link) → Names r l → l ≡ link_of r

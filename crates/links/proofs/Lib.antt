@@ -5,4 +5,3 @@ pub mod Insert
 pub mod Laws
 pub mod Order
 pub mod Same
-pub mod Shift

@@ -1,11 +1,15 @@
 -- The order of links, and lists that ascend by it.
-use Rattle.std.proofs.Common.{◌≡◌, ℕ, zero, suc, ◌+◌, ◌<◌, ◌≤◌, Bool, true, false, ◌&&◌, eqb, List, [], ◌∷◌, length, get_or, sym, refl, subst, inl, inr, ⊎_elim, arith}
+use Rattle.std.proofs.Common.{◌≡◌, ℕ, zero, suc, ◌<◌, true, false, ◌&&◌, eqb, List, [], ◌∷◌, length, get_or, sym, refl, subst, inl, inr, ⊎_elim, arith}
 use Rattle.std.proofs.lemmas.Bool.Decides.{nat_tests}
-use Rattle.std.proofs.lemmas.Bool.{and_parts, and_from, cases_Bool, cases_lt, both_ways, or_cases, or_left, or_right}
+use Rattle.std.proofs.lemmas.Bool.{and_parts, and_from, cases_Bool, both_ways, or_cases, or_left, or_right}
 use Rattle.model.specs.declared.link.Link.{Link}
 use Rattle.model.specs.Links.{before, is_link, In}
 use Rattle.model.specs.Rows.{is_in}
-use Rattle.links.specs.Order.{before_all, ascending, proper, no_link, Halved}
+use Rattle.links.specs.Order.{before_all, ascending, proper}
+
+-- what stands for a link past the last
+abbrev pub no_link : Link
+no_link = record { low = 0; high = 0 }
 
 pub before_trans : (a b c : Link) → before a b ≡ true → before b c ≡ true → before a c ≡ true
 before_trans a b c p q = grind (arith, nat_tests)
@@ -13,28 +17,14 @@ before_trans a b c p q = grind (arith, nat_tests)
 pub before_irrefl : (a : Link) → before a a ≡ true → ⊥
 before_irrefl a p = grind (arith, nat_tests)
 
-pub before_asym : (a b : Link) → before a b ≡ true → before b a ≡ true → ⊥
-before_asym a b p q = grind (arith, nat_tests)
-
 pub neither_same : (a b : Link) → before a b ≡ false → before b a ≡ false → a ≡ b
 neither_same a b p q = grind (arith, nat_tests)
-
--- what is before y, and y not before z: before z
-pub before_over : (a b c : Link) → before a b ≡ true → before c b ≡ false → before a c ≡ true
-before_over a b c p q = grind (arith, nat_tests)
-
-pub not_over : (a b c : Link) → before a b ≡ true → before a c ≡ false → before b c ≡ false
-not_over a b c p q = grind (arith, nat_tests)
 
 pub same_links : (a b : Link) → (eqb a.low b.low && eqb a.high b.high) ≡ true → a ≡ b
 same_links a b p = grind (arith, nat_tests)
 
 pub same_self : (a : Link) → (eqb a.low a.low && eqb a.high a.high) ≡ true
 same_self a = grind (arith, nat_tests)
-
--- not in the one order and not the same: in the other order
-pub before-rest : (a b : Link) → before a b ≡ false → (a ≡ b → ⊥) → before b a ≡ true
-before-rest a b p n = ⊎_elim (λ e. e) (λ e. absurd (n (neither_same a b p e))) (cases_Bool (before b a))
 
 pub not_back : (a b : Link) → before a b ≡ true → before b a ≡ false
 not_back a b p = grind (arith, nat_tests)
@@ -92,20 +82,3 @@ proper-in (x ∷ xs) m h (inr i) = proper-in xs m (and_parts (is_link x) (proper
 pub proper_from : (ys : List Link) → ((m : Link) → In m ys → is_link m ≡ true) → proper ys ≡ true
 proper_from [] f = refl
 proper_from (y ∷ ys) f = and_from (is_link y) (proper ys) (f y (inl refl)) (proper_from ys (λ m i. f m (inr i)))
-
--- a step of the search by halves
-pub below_mid : (xs : List Link) (l : Link) (mid : ℕ) → ascending xs ≡ true → mid < length xs → before (get_or xs mid no_link) l ≡ true → (k : ℕ) → k < mid + 1 → before (get_or xs k no_link) l ≡ true
-below_mid xs l mid h m p k lt =
-    ⊎_elim (λ q. before_trans (get_or xs k no_link) (get_or xs mid no_link) l (ascending-at xs k mid h q m) p) (λ q.
-    let e : mid ≡ k = omega arith in
-    subst (λ (j : ℕ). before (get_or xs j no_link) l ≡ true) e p) (cases_lt k mid)
-
-pub above_mid : (xs : List Link) (l : Link) (mid : ℕ) → ascending xs ≡ true → before (get_or xs mid no_link) l ≡ false → (k : ℕ) → mid ≤ k → k < length xs → before (get_or xs k no_link) l ≡ false
-above_mid xs l mid h p k le lt =
-    ⊎_elim (λ q. not_over (get_or xs mid no_link) (get_or xs k no_link) l (ascending-at xs mid k h q lt) p) (λ q.
-    let e : mid ≡ k = omega arith in
-    subst (λ (j : ℕ). before (get_or xs j no_link) l ≡ false) e p) (cases_lt mid k)
-
-pub halved : (xs : List Link) (l : Link) (mid : ℕ) → ascending xs ≡ true → mid < length xs → (b : Bool) → b ≡ before (get_or xs mid no_link) l → Halved l xs mid b
-halved xs l mid h m true p = below_mid xs l mid h m (sym p)
-halved xs l mid h m false p = above_mid xs l mid h (sym p)

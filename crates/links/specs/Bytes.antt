@@ -1,5 +1,6 @@
 -- What rows handed in as bytes come to.
-use Rattle.std.specs.Prelude.{◌≡◌, ℕ, ◌+◌, ◌%◌, ◌<◌, ◌≤◌, List, [], ◌∷◌, ◌++◌, length, Ok, Err, Result, ◌≢◌}
+use Rattle.std.specs.Prelude.{◌≡◌, ℕ, ◌+◌, ◌%◌, ◌<◌, ◌≤◌, List, [], ◌∷◌, ◌++◌, length, Ok, Err, Result, ◌≢◌, slice_index_or}
+use Rattle.std.specs.Simd.{first_chunks}
 use Rattle.model.specs.declared.refusal.Refusal.{Refusal}
 use Rattle.model.specs.declared.refusal.Refusal.TheVariants.{Ragged}
 use Rattle.model.specs.Bytes.{row_at, first_rows, whole_rows}
@@ -70,7 +71,11 @@ pub record Accepted (t : LinkTable) (bytes : List ℕ) (i count : ℕ) (u : Link
   pub counted : count ≡ repeats calls
   pub few : count ≤ i
 
+-- the 8 bytes are the row at an index
+abbrev pub IsRowAt : List ℕ → ℕ → List ℕ → Type 0
+IsRowAt bytes i row = (i < whole_rows bytes) × (row ≡ slice_index_or (first_chunks 8 (whole_rows bytes) bytes) i [])
+
 -- What the row at an index comes to where all before it were accepted: one more is accepted, or this is the first that is refused.
-abbrev pub RowDone : List ℕ → ℕ → LinkTable → Result Added TableFault → LinkTable → Type 0
+abbrev pub RowDone : List ℕ → ℕ → LinkTable → Result Added RowsFault → LinkTable → Type 0
 RowDone bytes i u (Ok a) v = (t : LinkTable) (count more : ℕ) → Accepted t bytes i count u → more ≡ count + repeat_of (Ok a) → Accepted t bytes (i + 1) more v
-RowDone bytes i u (Err e) v = (t : LinkTable) (count : ℕ) → Accepted t bytes i count u → RowsTaken t bytes (Err (record { row = i; fault = Table e })) v
+RowDone bytes i u (Err f) v = (t : LinkTable) (count : ℕ) → Accepted t bytes i count u → RowsTaken t bytes (Err f) v

@@ -1,5 +1,6 @@
 // What the table answers to a row.
 ghost use Rattle.std.specs.Prelude.{◌≡◌, Ok};
+ghost use Rattle.links.specs.declared.answer.RowFault.TheVariants.{Table};
 ghost use Rattle.links.specs.Answers.{refusal_of};
 ghost use Rattle.links.specs.Bytes.{repeat_of, row_refusal};
 
@@ -13,14 +14,11 @@ pub enum Added {
 }
 
 impl Added {
-    // Whether the row repeated a link, as a count: 1 where its link was in already.
+    // Whether the row repeated a link, as a count: 1 where its link was in already. No `From`: a bare number would not say of what.
     pub fn repeats(self) -> usize
         ensures { result ≡ repeat_of (Ok self) }
     {
-        match self {
-            Added::New => 0,
-            Added::Already => 1,
-        }
+        usize::from(self == Added::Already)
     }
 }
 
@@ -31,12 +29,12 @@ pub enum TableFault {
     TableFull,
 }
 
-impl TableFault {
-    // The refusal that this is.
-    pub fn refusal(self) -> Refusal
-        ensures { result ≡ refusal_of self }
-    {
-        match self {
+// The refusal that a fault is.
+impl From<TableFault> for Refusal {
+    ghost from_gives = { λ fault refusal. refusal ≡ refusal_of fault };
+
+    fn from(fault: TableFault) -> Refusal {
+        match fault {
             TableFault::SelfLink => Refusal::SelfLink,
             TableFault::TableFull => Refusal::TableFull,
         }
@@ -57,13 +55,21 @@ pub enum RowFault {
     Ragged,
 }
 
-impl RowFault {
-    // The refusal that this is.
-    pub fn refusal(self) -> Refusal
-        ensures { result ≡ row_refusal self }
-    {
-        match self {
-            RowFault::Table(fault) => fault.refusal(),
+impl From<TableFault> for RowFault {
+    ghost from_gives = { λ fault row_fault. row_fault ≡ Table fault };
+
+    fn from(fault: TableFault) -> RowFault {
+        RowFault::Table(fault)
+    }
+}
+
+// The refusal that a fault is.
+impl From<RowFault> for Refusal {
+    ghost from_gives = { λ fault refusal. refusal ≡ row_refusal fault };
+
+    fn from(fault: RowFault) -> Refusal {
+        match fault {
+            RowFault::Table(fault) => Refusal::from(fault),
             RowFault::Ragged => Refusal::Ragged,
         }
     }

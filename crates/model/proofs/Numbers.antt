@@ -65,7 +65,7 @@ in_bits-cons d k v h =
 pub in_bits_top : (k v : ℕ) → v < 2 ^ k → in_bits (suc k) (2 ^ k + v) ≡ true ∷ in_bits k v
 in_bits_top k v h = ap (λ n. in_bits (suc k) (n + v)) (sym (one-mul (2 ^ k))) ∙ in_bits-cons 1 k v h
 
-digit : (q : ℕ) → q < 2 → bit_value (eqb (q % 2) 1) ≡ q
+pub digit : (q : ℕ) → q < 2 → bit_value (eqb q 1) ≡ q
 digit zero h = refl
 digit (suc zero) h = refl
 digit (suc (suc q)) h = absurd (omega arith)
@@ -74,9 +74,10 @@ pub value-in_bits : (k v : ℕ) → v < 2 ^ k → value (in_bits k v) ≡ v
 value-in_bits zero v h = omega arith
 value-in_bits (suc k) v h =
     let q : v / 2 ^ k < 2 = shr_lt 1 k (rw one-add h) in
+    let d : bit_value (eqb (v / 2 ^ k % 2) 1) ≡ v / 2 ^ k = digit (v / 2 ^ k % 2) (omega arith) ∙ omega (arith, q) in
     let r : value (in_bits k v) ≡ v % 2 ^ k = ap value (sym (in_bits_mod k v)) ∙ value-in_bits k (v % 2 ^ k) (mod-lt v (pow_pos k)) in
     ap (λ l. bit_value (eqb (v / 2 ^ k % 2) 1) * 2 ^ l + value (in_bits k v)) (length-in_bits k v)
-    ∙ ap₂ (λ d l. d * 2 ^ k + l) (digit (v / 2 ^ k) q) r ∙ split v k
+    ∙ ap₂ (λ x l. x * 2 ^ k + l) d r ∙ split v k
 
 pub value_lt : (bs : List Bool) → value bs < 2 ^ length bs
 value_lt [] = omega arith

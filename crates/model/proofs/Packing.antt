@@ -3,23 +3,18 @@ use Rattle.std.proofs.Common.{◌≡◌, ℕ, zero, suc, ◌+◌, ◌-◌, ◌*�
 use lib.ListN.{length-replicate}
 use Rattle.std.proofs.lemmas.List.{take_at, drop_at, length-take-le, take-append-drop, nil_from_length}
 use Rattle.std.proofs.lemmas.Nat.{div-mul-add, mod-mul-add}
-use Rattle.model.specs.Bits.{bit_value, low_bits, low_value, zeros}
+use Rattle.model.specs.Bits.{low_bits, low_value, zeros}
 use Rattle.model.specs.Cells.{Place, word, fault, Fits, word_places, Cell, bit, bad, bits, cells_at, cells_of, mark}
 use Rattle.model.specs.Links.{Each}
 use Rattle.model.specs.Runs.{sealed, first_words, words_of, sealed_words}
 use Rattle.model.proofs.CellLists.{length-bits, bits-append}
-use Rattle.model.proofs.Numbers.{two_pow}
+use Rattle.model.proofs.Numbers.{digit, two_pow}
 
 -- ---- a word
 
 pub length-low_bits : (k n : ℕ) → length (low_bits k n) ≡ k
 length-low_bits zero n = refl
 length-low_bits (suc k) n = ap suc (length-low_bits k (n / 2))
-
-digit : (q : ℕ) → q < 2 → bit_value (eqb q 1) ≡ q
-digit zero h = refl
-digit (suc zero) h = refl
-digit (suc (suc q)) h = absurd (omega arith)
 
 pub low_value-low_bits : (k n : ℕ) → n < 2 ^ k → low_value (low_bits k n) ≡ n
 low_value-low_bits zero n h = omega arith

@@ -1,11 +1,16 @@
 -- Links and sets of links.
-use Rattle.std.specs.Prelude.{◌≡◌, ◌^◌, ◌<◌, min, max, Bool, ◌&&◌, ◌||◌, ◌⊎◌, List, [], ◌∷◌, ◌==◌, nat_lt}
+use Rattle.std.specs.Prelude.{◌≡◌, ℕ, ◌^◌, ◌<◌, min, max, Bool, ◌&&◌, ◌||◌, ◌⊎◌, List, [], ◌∷◌, ◌++◌, codes, ◌==◌, nat_lt}
+use Rattle.std.specs.Fmt.{decimal}
 use Rattle.model.specs.declared.link.Link.{Link}
 use Rattle.model.specs.declared.link.Row.{Row}
 
 -- the link of a row's two ends, the lower number first
 abbrev pub link_of : Row → Link
 link_of r = record { low = min r.first r.second; high = max r.first r.second }
+
+-- the bytes that show a link: its two ends with a dash between
+abbrev pub link_text : Link → List ℕ
+link_text x = decimal x.low ++ codes "-" ++ decimal x.high
 
 -- two different nodes with 32-bit numbers, the lower one first
 abbrev pub IsLink : Link → Type 0

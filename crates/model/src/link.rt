@@ -1,6 +1,8 @@
 // A row names two nodes. A link joins two nodes; it has no direction, so the lower number stands first.
-ghost use Rattle.std.specs.Prelude.{◌≡◌};
-ghost use Rattle.model.specs.Links.{before, link_of};
+ghost use Rattle.std.specs.Prelude.{◌≡◌, Some};
+ghost use Rattle.model.specs.Links.{before, link_of, link_text};
+
+use std::fmt;
 
 // Two node numbers, in the order in which they were handed in.
 #[derive(Clone, Copy, PartialEq, Eq, Debug)]
@@ -9,17 +11,18 @@ pub struct Row {
     pub second: u32,
 }
 
-#[derive(Clone, Copy, PartialEq, Eq, Debug)]
+// Ordered by the low end, then by the high end.
+#[derive(Clone, Copy, PartialEq, Eq, PartialOrd, Ord, Default, Debug)]
 pub struct Link {
     pub low: u32,
     pub high: u32,
 }
 
-impl Link {
-    // The link of a row, the lower number first.
-    pub fn of(row: Row) -> Link
-        ensures { result ≡ link_of row }
-    {
+// The link of a row, the lower number first.
+impl From<Row> for Link {
+    ghost from_gives = { λ row link. link ≡ link_of row };
+
+    fn from(row: Row) -> Link {
         if row.first < row.second {
             Link {
                 low: row.first,
@@ -32,11 +35,22 @@ impl Link {
             }
         }
     }
+}
 
-    // Whether this link comes first: by the low end, then by the high end.
+impl Link {
+    // Whether this link comes first. Beside `<`, since its contract says what the derived order is.
     pub fn is_before(self, other: Link) -> bool
         ensures { result ≡ before self other }
     {
-        self.low < other.low || (self.low == other.low && self.high < other.high)
+        self < other
+    }
+}
+
+// As its two ends with a dash between.
+impl fmt::Display for Link {
+    ghost output = { λ link. Some (link_text link) };
+
+    fn fmt<W: fmt::Write>(&self, f: &mut fmt::Formatter<W>) -> fmt::Result {
+        write!(f, "{}-{}", self.low, self.high)
     }
 }

@@ -1,6 +1,8 @@
 // Every reason for which a call of the library refuses, with its number and its word.
-ghost use Rattle.std.specs.Prelude.{◌≡◌};
+ghost use Rattle.std.specs.Prelude.{◌≡◌, Some};
 ghost use Rattle.model.specs.Refusals.{number_of, word_of};
+
+use std::fmt;
 
 // docs/REFUSALS.md says of each when it comes, what it leaves behind, and which comes first where several apply.
 #[derive(Clone, Copy, PartialEq, Eq, Debug)]
@@ -37,12 +39,12 @@ pub enum Refusal {
     Overspare,
 }
 
-impl Refusal {
-    // The number under which programs and C calls tell it.
-    pub fn number(self) -> u8
-        ensures { result ≡ number_of self }
-    {
-        match self {
+// The number under which programs and C calls tell a refusal. Written out, since an enum with a value in a case has no cast.
+impl From<Refusal> for u8 {
+    ghost from_gives = { λ refusal number. number ≡ number_of refusal };
+
+    fn from(refusal: Refusal) -> u8 {
+        match refusal {
             Refusal::Full => 1,
             Refusal::Unlisted => 2,
             Refusal::Dry => 3,
@@ -60,8 +62,10 @@ impl Refusal {
             Refusal::Overspare => 15,
         }
     }
+}
 
-    // The word under which a report tells it.
+impl Refusal {
+    // The word under which a report tells it. Beside `Display`, since it needs no formatter.
     pub fn word(self) -> &'static str
         ensures { result.now ≡ word_of self }
     {
@@ -82,5 +86,14 @@ impl Refusal {
             Refusal::TooFar => "too far",
             Refusal::Overspare => "overspare",
         }
+    }
+}
+
+// As its word.
+impl fmt::Display for Refusal {
+    ghost output = { λ refusal. Some (word_of refusal) };
+
+    fn fmt<W: fmt::Write>(&self, f: &mut fmt::Formatter<W>) -> fmt::Result {
+        f.write_str(self.word())
     }
 }

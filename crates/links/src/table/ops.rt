@@ -1,26 +1,28 @@
 // The calls of a link table.
-ghost use Rattle.std.specs.Prelude.{◌≡◌, [], length};
+ghost use Rattle.std.specs.Prelude.{◌≡◌, true, [], length};
 ghost use Rattle.std.specs.List.{slice_get};
 ghost use Rattle.model.specs.Links.{link_of};
 ghost use Rattle.model.specs.Rows.{is_in};
 ghost use Rattle.links.specs.Histories.{OrderIsFree, RowTaken, RowsSettleTheLinks};
+ghost use Rattle.links.specs.Order.{Found, ascending, proper};
 ghost use Rattle.links.specs.Rows.{Joined};
 ghost use Rattle.links.specs.Tables.{links_of};
 
-use super::super::answer::{Added, TableFault};
-use super::{LinkTable, MAX_LINKS};
+use super::LinkTable;
+use crate::answer::{Added, TableFault};
+use arrayvec::ArrayVec;
 use model::link::{Link, Row};
 
 impl LinkTable {
     // A table with no links. Whatever rows are added to it, it holds what they settle, whatever their order and direction.
+    #[tactic(auto, using(crate::proofs::Chains::settles, crate::proofs::Chains::free))]
     pub fn new() -> LinkTable
         ensures none { links_of result ≡ [] }
         ensures settles { RowsSettleTheLinks result }
         ensures free { OrderIsFree result }
     {
         LinkTable {
-            slots: [Link { low: 0, high: 0 }; MAX_LINKS],
-            len: 0,
+            links: ArrayVec::new(),
         }
     }
 
@@ -28,28 +30,28 @@ impl LinkTable {
     pub fn len(&self) -> usize
         ensures { result ≡ length (links_of self.now) }
     {
-        self.len
+        self.links.len()
+    }
+
+    // The links, ascending.
+    pub fn links(&self) -> &[Link]
+        ensures { result.now ≡ links_of self.now }
+    {
+        &self.links
     }
 
     // The link at an index of the ascending order, from 0; none past the last.
     pub fn get(&self, i: usize) -> Option<Link>
         ensures { result ≡ slice_get (links_of self.now) i }
     {
-        if i < self.len {
-            Some(self.slot(i))
-        } else {
-            None
-        }
+        self.links.get(i).copied()
     }
 
     // Whether the link of a row is in.
     pub fn contains(&self, row: Row) -> bool
         ensures { result ≡ is_in (link_of row) (links_of self.now) }
     {
-        match self.find(Link::of(row)) {
-            Ok(_) => true,
-            Err(_) => false,
-        }
+        find(&self.links, Link::from(row)).is_ok()
     }
 
     // Takes a row in: its link is put at its place, unless it is in already, the row's ends are equal or the table is full.
@@ -57,17 +59,27 @@ impl LinkTable {
         ensures { RowTaken self.old row result self.new }
     {
         let link = joined(row)?;
-        match self.find(link) {
+        match find(&self.links, link) {
             Ok(_) => Ok(Added::Already),
             Err(at) => {
-                if self.len == MAX_LINKS {
+                if self.links.is_full() {
                     return Err(TableFault::TableFull);
                 }
-                self.insert(at, link);
+                self.links.insert(at, link);
                 Ok(Added::New)
             }
         }
     }
+}
+
+// The place where `link` is among ascending links, or else the place where it belongs.
+#[tactic(auto, using(crate::proofs::Finding::searched))]
+fn find(links: &[Link], link: Link) -> Result<usize, usize>
+    requires order { ascending links.now ≡ true }
+    requires ends { proper links.now ≡ true }
+    ensures { Found link links.now result }
+{
+    links.binary_search(&link)
 }
 
 // The link of a row, unless the row's ends are equal.
@@ -77,5 +89,5 @@ fn joined(row: Row) -> Result<Link, TableFault>
     if row.first == row.second {
         return Err(TableFault::SelfLink);
     }
-    Ok(Link::of(row))
+    Ok(Link::from(row))
 }

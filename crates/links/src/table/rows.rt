@@ -1,10 +1,11 @@
 // Rows handed in as bytes.
-ghost use Rattle.std.specs.Prelude.{◌≡◌, ◌+◌, ◌*◌, ◌≤◌, length};
-ghost use Rattle.model.specs.Bytes.{number_at, row_at};
-ghost use Rattle.links.specs.Bytes.{RowDone, RowsTaken};
+ghost use Rattle.std.specs.Prelude.{◌≡◌, ℕ, List};
+ghost use Rattle.model.specs.Bytes.{row_at};
+ghost use Rattle.links.specs.declared.answer.RowFault.TheVariants.{Table};
+ghost use Rattle.links.specs.Bytes.{IsRowAt, RowDone, RowsTaken};
 
-use super::super::answer::{Added, RowFault, RowsAdded, RowsFault, TableFault};
 use super::LinkTable;
+use crate::answer::{Added, RowFault, RowsAdded, RowsFault, TableFault};
 use model::link::Row;
 
 // As many bytes as a row has: two node numbers of 32 bits, each with its lowest byte first.
@@ -15,52 +16,48 @@ impl LinkTable {
     pub fn add_rows(&mut self, bytes: &[u8]) -> Result<RowsAdded, RowsFault>
         ensures { RowsTaken self.old bytes.now result self.new }
     {
-        let rows = bytes.len() / ROW_BYTES;
+        let (rows, unfinished) = bytes.as_chunks::<ROW_BYTES>();
         let mut repeats = 0;
-        for i in 0..rows {
-            match self.add_row(bytes, i) {
-                Ok(added) => repeats += added.repeats(),
-                Err(fault) => {
-                    return Err(RowsFault {
-                        row: i,
-                        fault: RowFault::Table(fault),
-                    });
-                }
-            }
+        for (i, row) in rows.iter().enumerate() {
+            repeats += self.add_row(i, *row)?.repeats();
         }
-        if bytes.len() % ROW_BYTES != 0 {
+        if !unfinished.is_empty() {
             return Err(RowsFault {
-                row: rows,
+                row: rows.len(),
                 fault: RowFault::Ragged,
             });
         }
-        Ok(RowsAdded { rows, repeats })
+        Ok(RowsAdded {
+            rows: rows.len(),
+            repeats,
+        })
     }
 
-    // Takes in the row at an index of bytes that have it.
-    fn add_row(&mut self, bytes: &[u8], i: usize) -> Result<Added, TableFault>
-        requires { 8 * i + 8 ≤ length bytes.now }
-        ensures { RowDone bytes.now i self.old result self.new }
+    // Takes in the row at an index, which is told where the row is refused.
+    fn add_row(&mut self, i: usize, row: [u8; ROW_BYTES]) -> Result<Added, RowsFault>
+        ensures { (bytes : List ℕ) → IsRowAt bytes i row → RowDone bytes i self.old result self.new }
     {
-        self.add(row_at(bytes, i))
+        self.add(row_of(row)).map_err(|fault| refused(i, fault))
     }
 }
 
-// The row at an index of bytes that have it.
-fn row_at(bytes: &[u8], i: usize) -> Row
-    requires { 8 * i + 8 ≤ length bytes.now }
-    ensures { result ≡ row_at bytes.now i }
+// The table refuses the row at an index.
+fn refused(index: usize, fault: TableFault) -> RowsFault
+    ensures { result ≡ record { row = index; fault = Table fault } }
 {
+    RowsFault {
+        row: index,
+        fault: RowFault::from(fault),
+    }
+}
+
+// The row of 8 bytes.
+fn row_of(bytes: [u8; ROW_BYTES]) -> Row
+    ensures { result ≡ row_at bytes 0 }
+{
+    let [a, b, c, d, e, f, g, h] = bytes;
     Row {
-        first: number_at(bytes, ROW_BYTES * i),
-        second: number_at(bytes, ROW_BYTES * i + 4),
+        first: u32::from_le_bytes([a, b, c, d]),
+        second: u32::from_le_bytes([e, f, g, h]),
     }
-}
-
-// The 32-bit number in the four bytes from an index on.
-fn number_at(bytes: &[u8], i: usize) -> u32
-    requires { i + 4 ≤ length bytes.now }
-    ensures { result ≡ number_at bytes.now i }
-{
-    u32::from_le_bytes([bytes[i], bytes[i + 1], bytes[i + 2], bytes[i + 3]])
 }
