@@ -1,18 +1,15 @@
 -- Lemmas: the laws of `low_bits` and of a mask's size, over the width.
 
-use Rattle.std.specs.Prelude.{◌≡◌, ℕ, zero, suc, ◌+◌, ◌-◌, ◌*◌, ◌/◌, ◌%◌, ◌^◌, ◌<◌, ◌≤◌, Bool, true, false, cond, [], ◌∷◌, ◌++◌, length, ◌==◌, bit_and, bit_or, bit_xor, refl}
+use Rattle.std.specs.Prelude.{◌≡◌, ℕ, zero, suc, ◌+◌, ◌-◌, ◌*◌, ◌/◌, ◌%◌, ◌^◌, ◌<◌, ◌≤◌, Bool, true, false, [], ◌∷◌, ◌++◌, ◌==◌, bit_and, refl}
 use Rattle.std.proofs.Common.{ap, ap₂, ◌∙◌, append_assoc, zero-add, suc-add, one-mul, zero-mul, pow-suc, arith, pow_pos, add-one}
 use Rattle.std.proofs.Math.Arith.{lt-one}
-use Rattle.std.specs.Int.Bits.{block_half, block_odd, and_shifted, and_zero_r, xor_add_and, or_shifted_r}
+use Rattle.std.specs.Int.Bits.{block_half, block_odd, and_shifted, and_zero_r}
 use Rattle.std.proofs.lemmas.Nat.{and_comm, and_block}
+use Rattle.std.specs.Int.{from_bool}
 use Rattle.std.specs.Int.Count.{count_leading_zeros, leading_of_zero, leading_unique}
 use Rattle.std.proofs.Math.Pow.{field, mod-mod-pow}
 use Rattle.model.specs.Bits.{low_bits, zeros}
 use Rattle.words.specs.Partials.{size_at, sealed_by}
-
-pub length-low : (k n : ℕ) → length (low_bits k n) ≡ k
-length-low zero n = refl
-length-low (suc k) n = ap suc (length-low k (n / 2))
 
 -- bits past the k lowest do not matter
 pub low_mod : (k n : ℕ) → low_bits k (n % 2 ^ k) ≡ low_bits k n
@@ -22,16 +19,12 @@ low_mod (suc k) n =
     let high : n % 2 ^ suc k / 2 ≡ n / 2 % 2 ^ k = rw add-one at (field n k 1) in
     ap₂ (λ x xs. (x == 1) ∷ xs) low (ap (low_bits k) high ∙ low_mod k (n / 2))
 
--- the number of a bit
-abbrev pub one : Bool → ℕ
-one b = cond b 1 0
-
-pub push_low : (k n : ℕ) (b : Bool) → n < 2 ^ k → low_bits (suc k) (one b * 2 ^ k + n) ≡ low_bits k n ++ (b ∷ [])
+pub push_low : (k n : ℕ) (b : Bool) → n < 2 ^ k → low_bits (suc k) (from_bool b * 2 ^ k + n) ≡ low_bits k n ++ (b ∷ [])
 push_low zero n true h = rw (lt-one h)
 push_low zero n false h = rw (lt-one h)
 push_low (suc k) n b h =
     let lt : n / 2 < 2 ^ k = omega arith in
-    rw (block_odd (one b) k n, block_half (one b) k n) (ap (λ xs. (n % 2 == 1) ∷ xs) (push_low k (n / 2) b lt))
+    rw (block_odd (from_bool b) k n, block_half (from_bool b) k n) (ap (λ xs. (n % 2 == 1) ∷ xs) (push_low k (n / 2) b lt))
 
 pub zero_low : (k : ℕ) → low_bits k 0 ≡ zeros k
 zero_low zero = refl
@@ -42,9 +35,6 @@ more_low zero z n h = rw (zero-add z, lt-one h) (zero_low z)
 more_low (suc k) z n h =
     let lt : n / 2 < 2 ^ k = omega arith in
     rw (suc-add k z) (ap (λ xs. (n % 2 == 1) ∷ xs) (more_low k z (n / 2) lt))
-
-pub low_push : (k n : ℕ) → n < 2 ^ k → low_bits (suc k) (2 ^ k + n) ≡ low_bits k n ++ (true ∷ [])
-low_push k n h = rw one-mul at (push_low k n true h)
 
 pub seal_low : (w k n : ℕ) → k < w → n < 2 ^ k → low_bits w (2 ^ k + n) ≡ sealed_by (low_bits k n) (w - 1 - k)
 seal_low w k n h lt =
@@ -82,12 +72,6 @@ and_one k n le lt =
     let b : 1 * 2 ^ k + 0 ≡ 2 ^ k = omega arith in
     let e : bit_and n (2 ^ k) ≡ 1 * 2 ^ k + bit_and (n - 2 ^ k) 0 = rw (a, b) at (and_block k 1 1 (n - 2 ^ k) 0 lt2 (pow_pos k)) in
     omega (arith, and_zero_r (n - 2 ^ k))
-
-pub xor_one : (k n : ℕ) → 2 ^ k ≤ n → n < 2 ^ suc k → bit_xor n (2 ^ k) ≡ n - 2 ^ k
-xor_one k n le lt = omega (arith, xor_add_and n (2 ^ k), and_one k n le lt)
-
-pub or_one : (k n : ℕ) → n < 2 ^ k → bit_or n (2 ^ k) ≡ 2 ^ k + n
-or_one k n h = rw one-mul at (or_shifted_r 1 k n h)
 
 pub size_le : (w m : ℕ) → size_at w m ≤ w
 size_le w m = omega arith

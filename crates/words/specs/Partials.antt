@@ -1,5 +1,5 @@
 -- Partial words: a word and a mask that together hold up to w bits, the newest highest.
-use Rattle.std.specs.Prelude.{◌≡◌, ℕ, ◌-◌, ◌/◌, ◌^◌, ◌<◌, Bool, true, List, [], ◌∷◌, ◌++◌, length, Some, None, Ok, Err, Option, Result}
+use Rattle.std.specs.Prelude.{◌≡◌, ℕ, ◌-◌, ◌/◌, ◌^◌, ◌<◌, ◌≤◌, Bool, true, List, [], ◌∷◌, ◌++◌, length, Some, None, Ok, Err, Option, Result}
 use Rattle.std.specs.Int.Count.{count_leading_zeros}
 use Rattle.model.specs.Bits.{low_bits, zeros}
 
@@ -39,6 +39,16 @@ abbrev pub PartRead : List Bool → Option Bool → List Bool → Type 0
 PartRead bs (Some b) bs' = bs ≡ bs' ++ (b ∷ [])
 PartRead bs None bs' = (bs ≡ []) × (bs' ≡ [])
 
+-- With a bit more, the newest; or none, exactly where w bits are held.
+abbrev pub PartPushed : {P : Type 0} → ℕ → (P → List Bool) → List Bool → Bool → Option P → Type 0
+PartPushed w held bs b (Some p) = (length bs < w) × (held p ≡ bs ++ (b ∷ []))
+PartPushed w held bs b None = length bs ≡ w
+
+-- The newest bit, and what is held without it; or none, where none is held.
+abbrev pub PartPopped : {P : Type 0} → (P → List Bool) → List Bool → Option (Bool × P) → Type 0
+PartPopped held bs (Some (b, p)) = bs ≡ held p ++ (b ∷ [])
+PartPopped held bs None = bs ≡ []
+
 -- ---- words of w bits, by their bits
 
 -- The word that a program has with these w bits: its number is what they stand for.
@@ -68,3 +78,12 @@ UnsealedWord w held n None = low_bits w n ≡ zeros w
 abbrev pub NumberWord : {W : Type 0} → ℕ → (W → ℕ) → ℕ → Option W → Type 0
 NumberWord w number n (Some x) = (n < 2 ^ w) × (number x ≡ n)
 NumberWord w number n None = n < 2 ^ w → ⊥
+
+-- ---- unsigned integer types
+
+-- What holds of an unsigned integer type of w bits, and of the numbers of its values.
+pub record UnsignedLaws {X : Type 0} (w : ℕ) (number : X → ℕ) (word : ℕ → X) : Type 0 where
+  pub some : 0 < w
+  pub most : w ≤ 64
+  pub back : (x : X) → word (number x) ≡ x
+  pub there : (n : ℕ) → number (word n) ≡ n

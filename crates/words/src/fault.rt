@@ -11,22 +11,13 @@ pub enum BoundedWriteError {
     OutOfSpace,
 }
 
-impl BoundedWriteError {
-    // The refusal that this is.
-    pub fn refusal(self) -> Refusal
-        ensures { result ≡ write_refusal self }
-    {
-        match self {
-            BoundedWriteError::OutOfSpace => Refusal::Full,
-        }
-    }
+// The refusal that it is.
+impl From<BoundedWriteError> for Refusal {
+    ghost from_gives = { λ error r. r ≡ write_refusal error };
 
-    // What it is shown as.
-    fn text(self) -> &'static str
-        ensures { result.now ≡ write_text self }
-    {
-        match self {
-            BoundedWriteError::OutOfSpace => "Out of space",
+    fn from(error: BoundedWriteError) -> Refusal {
+        match error {
+            BoundedWriteError::OutOfSpace => Refusal::Full,
         }
     }
 }
@@ -35,6 +26,8 @@ impl fmt::Display for BoundedWriteError {
     ghost output = { λ e. Some (write_text e) };
 
     fn fmt<W: fmt::Write>(&self, f: &mut fmt::Formatter<W>) -> fmt::Result {
-        f.write_str(self.text())
+        match self {
+            BoundedWriteError::OutOfSpace => f.write_str("Out of space"),
+        }
     }
 }

@@ -6,17 +6,11 @@ ghost use Rattle.model.specs.Bits.{low_bits, zeros};
 ghost use Rattle.words.specs.Partials.{IsWord, Masked, NumberWord, PartRead, PartWritten, SealedWord, UnsealedWord, Whole};
 
 pub mod fault;
-mod part32;
-mod part64;
-mod part8;
-mod word32;
-mod word64;
-mod word8;
+mod part;
+mod unsigned;
 
 use fault::BoundedWriteError;
-pub use part8::Partial8;
-pub use part32::Partial32;
-pub use part64::Partial64;
+pub use part::{Partial, Partial8, Partial32, Partial64};
 
 // Up to a word's number of bits, the newest highest.
 pub trait PartialWord: Copy {
@@ -79,7 +73,7 @@ pub trait Word: Copy {
     fn width() -> u32
         ensures { result ≡ Self.Partial.PartialWord.width };
 
-    // The number that it is.
+    // The number that it is. (A call of its own: bounds by `Into` and `TryFrom` would need two laws more to name `number` and `value`.)
     fn to_u64(self) -> u64
         ensures number { result ≡ number self }
         ensures value { result ≡ value self };
