@@ -1,7 +1,7 @@
 -- Words written one after the other.
 use Rattle.std.proofs.Common.{◌≡◌, ℕ, ◌+◌, ◌-◌, ◌<◌, ◌≤◌, List, [], ◌∷◌, ◌++◌, map, length, get_or, take, drop, Ok, Err, sym, refl, ap, ◌∙◌, subst, append_assoc, append-nil, arith, length-append, length-drop}
 use lib.ListN.{length-map}
-use Rattle.std.proofs.lemmas.List.{drop_more, map_more, take_all, length-take-le, take-map}
+use Rattle.std.proofs.lemmas.List.{drop_more, map_more, length-take-le, take-map, nil_from_length}
 use Rattle.model.specs.Cells.{Place}
 use Rattle.model.specs.declared.refusal.Refusal.{Refusal}
 use Rattle.model.specs.declared.refusal.Refusal.TheVariants.{Full}
@@ -49,14 +49,5 @@ module _ {S W : Type 0} (writes : S → W → Answer (Unit {0}) → S → Type 0
         let k : capacity s - length (places s) ≡ i = omega arith in
         (omega arith, why, stay ∙ h.held ∙ ap (λ z. places s ++ z) (sym (take-map place_of i xs) ∙ ap (λ n. take n (map place_of xs)) (sym k)))
 
-  pub all_written : (i : ℕ) (t : S) → Written i t → length xs ≤ i → i ≤ length xs → WroteAll writes s xs (Ok tt) t × Extended (capacity s) (places s) (map place_of xs) (Ok tt) (places t)
-  all_written i t h ge le =
-      let l = length-map xs place_of in
-      let r = h.room in (
-        h.calls (Ok tt) t (subst (λ ys. WroteAll writes t ys (Ok tt) t) (sym (nil (drop i xs) (omega (arith, length-drop i xs)))) none_left),
-        (omega arith, h.held ∙ ap (λ z. places s ++ map place_of z) (take_all i xs ge)),
-      )
-    where
-      nil : {A : Type 0} (ys : List A) → length ys ≡ 0 → ys ≡ []
-      nil [] e = refl
-      nil (y ∷ ys) e = absurd (omega arith)
+  pub all_written : (i : ℕ) (t : S) → Written i t → length xs ≤ i → WroteAll writes s xs (Ok tt) t
+  all_written i t h ge = h.calls (Ok tt) t (subst (λ ys. WroteAll writes t ys (Ok tt) t) (sym (nil_from_length (drop i xs) (omega (arith, length-drop i xs)))) none_left)

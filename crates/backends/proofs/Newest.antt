@@ -1,9 +1,9 @@
 -- A stack is read from its newest place.
-use Rattle.std.proofs.Common.{◌≡◌, ℕ, ◌<◌, ◌≤◌, List, [], ◌∷◌, ◌++◌, reverse, length, Some, None, Ok, Err, Option, sym, ap, ◌∙◌, subst, arith, length-append}
+use Rattle.std.proofs.Common.{◌≡◌, ℕ, ◌≤◌, List, [], ◌∷◌, ◌++◌, reverse, length, Some, None, Ok, Err, Option, sym, ap, ◌∙◌, subst, arith, length-append}
 use mathlib.Core.List.{reverse-cons, reverse-reverse}
 use Rattle.model.specs.Cells.{Place, word, fault}
 use Rattle.model.specs.Refusals.{Answer}
-use Rattle.model.specs.Stores.{SourceRead, StackRead, StackWritten}
+use Rattle.model.specs.Stores.{SourceRead, StackRead}
 use Rattle.backends.specs.Chains.{Taken}
 
 turned_back : {A : Type 0} (xs ys : List A) (x : A) → reverse xs ≡ x ∷ ys → xs ≡ reverse ys ++ (x ∷ [])
@@ -30,8 +30,3 @@ leaves_room ps ps' c (Err w) le e = e
 
 pub taken : (ps ps' cs cs' : List Place) (c : ℕ) (a : Answer (Option ℕ)) → cs ≡ reverse ps → cs' ≡ reverse ps' → length ps ≤ c → SourceRead cs a cs' → Taken c ps a ps'
 taken ps ps' cs cs' c a e h le r = leaves_room ps ps' c a le (read_of ps ps' cs cs' a e h r)
-
--- where there is room a word is written
-pub put : (ps ps' : List Place) (n c : ℕ) (r : Answer (Unit {0})) → length ps < c → StackWritten c ps n r ps' → ps' ≡ ps ++ (word n ∷ [])
-put ps ps' n c (Ok _) lt (_, h) = h
-put ps ps' n c (Err w) lt (full, _, _) = absurd (omega arith)

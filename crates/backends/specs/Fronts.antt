@@ -1,14 +1,10 @@
 -- Lemmas: the places of a slice before and after a position, one more or one less.
-use Rattle.std.specs.Prelude.{◌≡◌, ℕ, ◌+◌, ◌-◌, ◌^◌, ◌<◌, ◌≤◌, min, List, [], ◌∷◌, ◌++◌, map, reverse, length, take, drop, ◌≢◌, slice_index_or, slice_set, refl}
-use Rattle.std.proofs.Common.{sym, ap, ap₂, ◌∙◌, add-one, arith, length-append, length-set, length-drop}
-use mathlib.Core.List.{reverse-append, reverse-cons}
-use Rattle.std.proofs.lemmas.List.{take_more, take_more_set, map-append, length-take-le, drop_more, get_or-take, length-map}
+use Rattle.std.specs.Prelude.{◌≡◌, ℕ, ◌+◌, ◌-◌, ◌^◌, ◌<◌, ◌≤◌, List, [], ◌∷◌, ◌++◌, map, reverse, length, take, drop, ◌≢◌, slice_index_or}
+use Rattle.std.proofs.Common.{sym, ap, ap₂, ◌∙◌, arith, length-drop}
+use mathlib.Core.List.{reverse-append}
+use Rattle.std.proofs.lemmas.List.{take_more, map-append, length-take-le, drop_more, get_or-take, length-map, nil_from_length}
 use Rattle.model.specs.Cells.{Place}
 use Rattle.backends.specs.Slices.{spread, before, front, rest}
-
-pub length-turned : {A : Type 0} (xs : List A) → length (reverse xs) ≡ length xs
-length-turned [] = refl
-length-turned (x ∷ xs) = ap length (reverse-cons x xs) ∙ length-append (reverse xs) (x ∷ []) ∙ ap (λ n. n + 1) (length-turned xs) ∙ add-one (length xs)
 
 module _ {A : Type 0} (place : A → Place) (xs : List A) (pos n : ℕ) (is : n ≡ before xs pos) where
   pub within : n ≤ spread xs
@@ -25,19 +21,6 @@ module _ {A : Type 0} (place : A → Place) (xs : List A) (pos n : ℕ) (is : n 
 
   front_at : front place xs pos ≡ map place (take n xs)
   front_at = ap (λ k. map place (take k xs)) (sym is)
-
-  -- one element more
-  pub front-more : (x : A) → n < length xs → n < 2 ^ 56 → front place (slice_set xs n x) (n + 1) ≡ front place xs pos ++ (place x ∷ [])
-  front-more x h b =
-      let l = length-set xs n x in
-      let u : before (slice_set xs n x) (n + 1) ≡ n + 1 = omega arith in
-      ap (λ k. map place (take k (slice_set xs n x))) u
-      ∙ ap (map place) (take_more_set xs n x h)
-      ∙ map-append place (take n xs) (x ∷ [])
-      ∙ ap (λ t. t ++ (place x ∷ [])) (sym front_at)
-
-  pub spread_set : (x : A) → spread (slice_set xs n x) ≡ spread xs
-  spread_set x = ap (λ k. min (2 ^ 56) k) (length-set xs n x)
 
   -- one less
   pub front_last : (d : A) → (n ≢ 0) → front place xs pos ≡ front place xs (n - 1) ++ (place (slice_index_or xs (n - 1) d) ∷ [])
@@ -69,8 +52,4 @@ module _ {A : Type 0} (place : A → Place) (xs : List A) (pos n : ℕ) (is : n 
       ∙ ap₂ (λ x k. place x ∷ map place (drop k (take (spread xs) xs))) (get_or-take (spread xs) xs n d (omega arith)) u
 
   pub none_left : spread xs ≤ n → rest place xs pos ≡ []
-  none_left h = nil (rest place xs pos) (how_many_left ∙ omega arith)
-    where
-      nil : (ps : List Place) → length ps ≡ 0 → ps ≡ []
-      nil [] e = refl
-      nil (p ∷ ps) e = absurd (omega arith)
+  none_left h = nil_from_length (rest place xs pos) (how_many_left ∙ omega arith)

@@ -12,15 +12,6 @@ pub struct ReadFault {
     pub place: u64,
 }
 
-impl ReadFault {
-    // The refusal that this is.
-    pub fn refusal(self) -> Refusal
-        ensures { result ≡ read_refusal self }
-    {
-        Refusal::BadRecord(self.place)
-    }
-}
-
 // Why a position is refused.
 #[derive(Clone, Copy, PartialEq, Eq, Debug)]
 pub enum SeekError {
@@ -28,12 +19,19 @@ pub enum SeekError {
     PastEnd,
 }
 
-impl SeekError {
-    // The refusal that this is.
-    pub fn refusal(self) -> Refusal
-        ensures { result ≡ seek_refusal self }
-    {
-        match self {
+impl From<ReadFault> for Refusal {
+    ghost from_gives = { λ fault r. r ≡ read_refusal fault };
+
+    fn from(fault: ReadFault) -> Refusal {
+        Refusal::BadRecord(fault.place)
+    }
+}
+
+impl From<SeekError> for Refusal {
+    ghost from_gives = { λ error r. r ≡ seek_refusal error };
+
+    fn from(error: SeekError) -> Refusal {
+        match error {
             SeekError::PastEnd => Refusal::Misplaced,
         }
     }
@@ -43,7 +41,6 @@ impl fmt::Display for ReadFault {
     ghost output = { λ f. Some (read_text f) };
 
     fn fmt<W: fmt::Write>(&self, f: &mut fmt::Formatter<W>) -> fmt::Result {
-        let place = self.place;
-        write!(f, "place {place} is a fault")
+        write!(f, "place {} is a fault", self.place)
     }
 }

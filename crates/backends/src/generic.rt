@@ -1,5 +1,5 @@
-// Calls over any store.
-ghost use Rattle.std.specs.Prelude.{◌≡◌, ◌<◌, [], ◌∷◌, ◌++◌, map, length, ◌==◌};
+// Calls over any store. (Each says that the capacity stays, since that is of a store before and after, and no invariant of one value.)
+ghost use Rattle.std.specs.Prelude.{◌≡◌, map, length, ◌==◌};
 ghost use Rattle.model.specs.Stores.{valued};
 ghost use Rattle.backends.specs.Answers.{told_read, told_write};
 ghost use Rattle.backends.specs.Chains.{Extended, Replaced, Taken, WroteAll};
@@ -38,7 +38,7 @@ pub fn extend_from_iter<W: Word, B: WordSink<W>>(
     write_all(store, words)
 }
 
-// The loop of it.
+// The loop of it. (Apart: both clauses need answers, and an edit of the public call is to be refused at its clause, not at an answer.)
 fn write_all<W: Word, B: WordSink<W>>(store: &mut B, words: &[W]) -> Result<(), BoundedWriteError>
     ensures calls { WroteAll B.WriteWords.writes store.old words.now (told_write result) store.new }
     ensures places { Extended (B.WriteWords.capacity store.old) (B.WriteWords.places store.old) (map (word_at W.Word.value) words.now) (told_write result) (B.WriteWords.places store.new) }
@@ -58,29 +58,17 @@ pub fn replace_newest<W: Word, B: WordStack<W>>(
     ensures places { Replaced (B.WriteWords.places store.old) (W.Word.value word) (valued W.Word.value (told_read result)) (B.WriteWords.places store.new) }
     ensures same { B.WriteWords.capacity store.new ≡ B.WriteWords.capacity store.old }
 {
-    match take_newest(store) {
-        Ok(Some(old)) => {
-            put_newest(store, word);
-            Ok(Some(old))
-        }
-        Ok(None) => Ok(None),
-        Err(fault) => Err(fault),
-    }
+    let Some(old) = take_newest(store)? else {
+        return Ok(None);
+    };
+    let _ = store.write(word);
+    Ok(Some(old))
 }
 
-// The newest word, by the places; where there is one, it leaves room.
+// The newest word, by the places; where there is one, it leaves room. (Apart, as `write_all` is.)
 fn take_newest<W: Word, B: WordStack<W>>(store: &mut B) -> Result<Option<W>, ReadFault>
     ensures places { Taken (B.WriteWords.capacity store.old) (B.WriteWords.places store.old) (valued W.Word.value (told_read result)) (B.WriteWords.places store.new) }
     ensures same { B.WriteWords.capacity store.new ≡ B.WriteWords.capacity store.old }
 {
     store.read()
-}
-
-// One word more, where there is room for it.
-fn put_newest<W: Word, B: WordStack<W>>(store: &mut B, word: W)
-    requires { length (B.WriteWords.places store.old) < B.WriteWords.capacity store.old }
-    ensures places { B.WriteWords.places store.new ≡ B.WriteWords.places store.old ++ (word_at W.Word.value word ∷ []) }
-    ensures same { B.WriteWords.capacity store.new ≡ B.WriteWords.capacity store.old }
-{
-    let _ = store.write(word);
 }

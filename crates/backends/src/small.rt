@@ -1,13 +1,14 @@
 // A stack of up to eight 64-bit words, kept inside its own value.
-ghost use Rattle.std.specs.Prelude.{◌≡◌, ◌≤◌, length};
+ghost use Rattle.std.specs.Prelude.{◌≤◌};
+ghost use Rattle.arrayvec.specs.ArrayVec.{array_vec_len};
 
 mod calls;
 
-// The first `len` words are held, oldest first; its capacity is 8.
+use arrayvec::ArrayVec;
+
+// The words held, oldest first; its capacity is 8.
 #[derive(Drop)]
 pub struct SmallStore {
-    words: [u64; 8],
-    len: usize,
-    ghost size: { length words ≡ 8 },
-    ghost within: { len ≤ 8 },
+    words: ArrayVec<u64, 8>,
+    ghost within: { array_vec_len words ≤ 8 },
 }

@@ -29,6 +29,19 @@ impl Semantics for Stack {}
 
 impl Semantics for Queue {}
 
+// An order, and the opposite one. (Apart from `Semantics`, since a trait cannot bound its own associated type by itself.)
+pub trait Reversible: Semantics {
+    type Reversed: Semantics;
+}
+
+impl Reversible for Stack {
+    type Reversed = Queue;
+}
+
+impl Reversible for Queue {
+    type Reversed = Stack;
+}
+
 // Reads words in one order.
 pub trait ReadWords<W: Word, S: Semantics> {
     // the places to come, next first

@@ -2,17 +2,15 @@
 use Rattle.std.proofs.Common.{◌≡◌, ℕ, ◌+◌, ◌-◌, ◌^◌, ◌≤◌, min, List, [], ◌∷◌, ◌++◌, map, reverse, length, take, drop, set, Ok, Err, sym, refl, ap, ◌∙◌, ap₂, arith, length-drop, length-set, take-append-drop, take_all, take_at, drop_at}
 use mathlib.Core.List.{reverse-append, reverse-cons, reverse-reverse}
 use lib.Seq.{take-set-lt}
-use Rattle.std.proofs.lemmas.List.{drop-set, length-take-le, map-append}
+use Rattle.std.proofs.lemmas.List.{drop-set, length-reverse, length-take-le, map-append}
 use Rattle.model.specs.Cells.{Place}
 use Rattle.model.specs.Refusals.{Answer}
 use Rattle.model.specs.Stores.{StackWritten}
 use Rattle.cursors.specs.declared.cursor.Cursor.{Cursor}
-use Rattle.backends.specs.Slices.{word_at}
-use Rattle.backends.specs.Slices.{Placed}
-use Rattle.cursors.specs.Cursors.{at, queued, room_of, stacked}
-use Rattle.cursors.specs.Reversed.{PutBelow, SameStore, Turned, TurnsBack, reversed}
-use Rattle.backends.specs.Slices.{spread, before, front, rest}
-use Rattle.backends.specs.Fronts.{how_many_left, length-turned}
+use Rattle.cursors.specs.Cursors.{at, queued, room_of}
+use Rattle.cursors.specs.Reversed.{PutBelow}
+use Rattle.backends.specs.Slices.{spread, before, front, rest, word_at}
+use Rattle.backends.specs.Fronts.{how_many_left}
 
 map-reverse : {A B : Type 0} (f : A → B) (xs : List A) → map f (reverse xs) ≡ reverse (map f xs)
 map-reverse f [] = refl
@@ -22,11 +20,8 @@ map-reverse f (x ∷ xs) =
     ∙ ap (λ t. t ++ (f x ∷ [])) (map-reverse f xs)
     ∙ sym (reverse-cons (f x) (map f xs))
 
-set_spread : {A : Type 0} (xs : List A) (i : ℕ) (x : A) → spread (set xs i x) ≡ spread xs
-set_spread xs i x = ap (λ k. min (2 ^ 56) k) (length-set xs i x)
-
 turned-spread : {A : Type 0} (xs : List A) → spread (reverse xs) ≡ spread xs
-turned-spread xs = ap (λ k. min (2 ^ 56) k) (length-turned xs)
+turned-spread xs = ap (λ k. min (2 ^ 56) k) (length-reverse xs)
 
 module _ {A : Type 0} (place : A → Place) (xs : List A) (pos n : ℕ) (is : n ≡ before xs pos) where
   -- the slot below the position is written
@@ -48,13 +43,13 @@ module _ {A : Type 0} (place : A → Place) (xs : List A) (pos n : ℕ) (is : n 
     halves = ap reverse (sym (take-append-drop n xs)) ∙ reverse-append (take n xs) (drop n xs)
 
     size : length (reverse (drop n xs)) ≡ length xs - n
-    size = length-turned (drop n xs) ∙ length-drop n xs
+    size = length-reverse (drop n xs) ∙ length-drop n xs
 
     there : before (reverse xs) (length xs - n) ≡ length xs - n
-    there = let l = length-turned xs in omega arith
+    there = let l = length-reverse xs in omega arith
 
     all : take (spread (reverse xs)) (reverse xs) ≡ reverse xs
-    all = let l = length-turned xs in take_all (spread (reverse xs)) (reverse xs) (omega arith)
+    all = let l = length-reverse xs in take_all (spread (reverse xs)) (reverse xs) (omega arith)
 
     turned-rest : rest place (reverse xs) (length xs - n) ≡ reverse (front place xs pos)
     turned-rest =
@@ -71,49 +66,30 @@ module _ {A : Type 0} (place : A → Place) (xs : List A) (pos n : ℕ) (is : n 
         ∙ map-reverse place (drop n xs)
         ∙ ap₂ (λ k t. reverse (map place (drop k t))) is (sym (take_all (spread xs) xs m))
 
--- A turned cursor is the same store, and turned again it is the first.
-module _ {W : Type 0} (value : W → ℕ) (s t : Cursor W) (turn : Turned s t) where
-  swapped_rest : length s.buf.now ≤ 2 ^ 56 → queued value t ≡ reverse (stacked value s)
-  swapped_rest few =
-      ap₂ (λ ys p. rest (word_at value) ys p) turn.slots turn.stands
-      ∙ turned-rest (word_at value) s.buf.now s.pos (at s) refl few
+-- a slice that is another one turned, and a position counted from its other end
+module _ {A : Type 0} (place : A → Place) (xs ys : List A) (pos k : ℕ) (turn : ys ≡ reverse xs) (other_end : k ≡ length xs - before xs pos) (few : length xs ≤ 2 ^ 56) where
+  pub rest_of_turned : rest place ys k ≡ reverse (front place xs pos)
+  rest_of_turned = ap₂ (λ zs p. rest place zs p) turn other_end ∙ turned-rest place xs pos (before xs pos) refl few
 
-  swapped_front : length s.buf.now ≤ 2 ^ 56 → stacked value t ≡ reverse (queued value s)
-  swapped_front few =
-      ap₂ (λ ys p. front (word_at value) ys p) turn.slots turn.stands
-      ∙ turned-front (word_at value) s.buf.now s.pos (at s) refl few
+  pub front_of_turned : front place ys k ≡ reverse (rest place xs pos)
+  front_of_turned = ap₂ (λ zs p. front place zs p) turn other_end ∙ turned-front place xs pos (before xs pos) refl few
 
-  swapped_room : room_of t ≡ room_of s
-  swapped_room = ap spread turn.slots ∙ turned-spread s.buf.now
+  pub rest_turned_back : reverse (rest place ys k) ≡ front place xs pos
+  rest_turned_back = ap reverse rest_of_turned ∙ reverse-reverse (front place xs pos)
 
-  pub same-reversed : length s.buf.now ≤ 2 ^ 56 → SameStore value s (reversed t)
-  same-reversed few = record {
-    stack = ap reverse (swapped_rest few) ∙ reverse-reverse (stacked value s);
-    queue = ap reverse (swapped_front few) ∙ reverse-reverse (queued value s);
-    room = swapped_room;
-  }
+  pub front_turned_back : reverse (front place ys k) ≡ rest place xs pos
+  front_turned_back = ap reverse front_of_turned ∙ reverse-reverse (rest place xs pos)
 
-  pub reversed-same : length s.buf.now ≤ 2 ^ 56 → SameStore value t (reversed s)
-  reversed-same few = record {
-    stack = sym (swapped_front few);
-    queue = sym (swapped_rest few);
-    room = sym swapped_room;
-  }
+pub spread_of_turned : {A : Type 0} (xs ys : List A) → ys ≡ reverse xs → spread ys ≡ spread xs
+spread_of_turned xs ys turn = ap spread turn ∙ turned-spread xs
 
-  pub turns_back : Placed (length s.buf.now) s.pos → TurnsBack s t
-  turns_back placed u again =
-      let l : length t.buf.now ≡ length s.buf.now = ap length turn.slots ∙ length-turned s.buf.now in
-      let p = turn.stands in
-      record {
-        lent = again.lent ∙ turn.lent;
-        slots = again.slots ∙ ap reverse turn.slots ∙ reverse-reverse s.buf.now;
-        stands = again.stands ∙ omega arith;
-      }
+-- what makes a turned cursor the same store
+pub ruleset turning = (rest_of_turned, front_of_turned, rest_turned_back, front_turned_back, spread_of_turned)
 
 -- A word put below the position is a write to the stack of the reversed cursor.
 module _ {W : Type 0} (value : W → ℕ) (s t : Cursor W) (x : W) where
   many : length (reverse (queued value s)) ≡ room_of s - at s
-  many = length-turned (queued value s) ∙ how_many_left (word_at value) s.buf.now s.pos (at s) refl
+  many = length-reverse (queued value s) ∙ how_many_left (word_at value) s.buf.now s.pos (at s) refl
 
   pub put_means : (r : Answer (Unit {0})) → PutBelow s x r t → StackWritten (room_of s) (reverse (queued value s)) (value x) r (reverse (queued value t))
   put_means (Ok _) (some, put) =
@@ -124,7 +100,3 @@ module _ {W : Type 0} (value : W → ℕ) (s t : Cursor W) (x : W) where
             ∙ reverse-cons (word_at value x) (queued value s),
       )
   put_means (Err e) (none, full, still) = (many ∙ omega arith, full, ap (λ c. reverse (queued value c)) still)
-
-  pub put_room : (r : Answer (Unit {0})) → PutBelow s x r t → room_of t ≡ room_of s
-  put_room (Ok _) (some, put) = ap spread put.slots ∙ set_spread s.buf.now (at s - 1) x
-  put_room (Err e) (none, full, still) = ap room_of still

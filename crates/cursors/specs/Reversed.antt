@@ -7,10 +7,6 @@ use Rattle.cursors.specs.declared.cursor.Cursor.{Cursor}
 use Rattle.cursors.specs.declared.reverse.Reverse.{Reverse}
 use Rattle.cursors.specs.Cursors.{Holds, at, queued, room_of, stacked}
 
--- a cursor, wrapped
-abbrev pub reversed : {W : Type 0} → Cursor W → Reverse (Cursor W)
-reversed c = record { 0 = c }
-
 -- As a stack it holds the words from the last slot down to the position, oldest first; as a source those below the position, next first.
 abbrev pub turned_stack : {W : Type 0} → (W → ℕ) → Reverse (Cursor W) → List Place
 turned_stack value r = reverse (queued value r.0)

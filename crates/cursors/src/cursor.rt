@@ -1,8 +1,9 @@
 // A lent slice of words with a position, as a stack, as a source and as a sink.
-ghost use Rattle.std.specs.Prelude.{◌≡◌, ℕ, ◌-◌, [], reverse, length, Ok, refl};
-ghost use Rattle.backends.specs.Answers.{told_write};
+ghost use Rattle.std.specs.Prelude.{◌≡◌, reverse, refl};
+ghost use Rattle.std.proofs.Common.{rules};
+ghost use Rattle.std.proofs.lemmas.Grind.{common_steps};
 ghost use Rattle.cursors.specs.Cursors.{Checked, CursorPopped, CursorTook, CursorWrote, OpenedAt, at, queued, room_of, stacked};
-ghost use Rattle.cursors.specs.Laws.{popped_keeps, queue_fits, room_bounded, stack_fits, stack_within};
+ghost use Rattle.cursors.specs.Laws.{queue_fits, stack_fits};
 
 mod calls;
 
@@ -15,7 +16,8 @@ use words::Word;
 use words::fault::BoundedWriteError;
 
 // As a stack it holds the words before the position, and its capacity is the slice's length; as a source it holds the words from the
-// position on.
+// position on. The position stands beside the slice, since the slots are the caller's. (No ghost field bounds it: as of every store, what
+// is said of a cursor holds of each value that the type has, with the position cut at the slice's end.)
 #[derive(Drop)]
 pub struct Cursor<'a, W> {
     pub(crate) buf: &'a mut [W],
@@ -46,63 +48,18 @@ impl<'a, W: Word> Cursor<'a, W> {
         Cursor { buf, pos }
     }
 
-    // Puts a word into the slot at the position and moves on.
-    fn put(&mut self, word: W) -> Result<(), BoundedWriteError>
-        ensures { CursorWrote self.old word (told_write result) self.new }
-    {
-        let at = self.place();
-        if at >= self.buf.len() || at >= MOST_PLACES {
-            return Err(BoundedWriteError::OutOfSpace);
-        }
-        self.buf[at] = word;
-        self.pos = at + 1;
-        Ok(())
-    }
-
-    // The word before the position, to which it moves.
-    fn pop(&mut self) -> Option<W>
-        ensures { CursorPopped self.old (Ok result) self.new }
-    {
-        let at = self.place();
-        if at == 0 {
-            return None;
-        }
-        self.pos = at - 1;
-        Some(self.buf[at - 1])
-    }
-
-    // The word at the position, past which it moves.
-    fn next(&mut self) -> Option<W>
-        ensures { CursorTook self.old (Ok result) self.new }
-    {
-        let at = self.place();
-        if at >= self.buf.len() || at >= MOST_PLACES {
-            return None;
-        }
-        self.pos = at + 1;
-        Some(self.buf[at])
-    }
-
-    // How many slots are before the position: the words held as a stack.
-    fn held(&self) -> usize
-        ensures { result ≡ length (reverse (stacked W.Word.value self.now)) }
-    {
-        self.place()
-    }
-
-    // How many slots there are from the position on: the words held as a queue, and the room.
-    fn ahead(&self) -> usize
-        ensures left { result ≡ length (queued W.Word.value self.now) }
-        ensures room { result ≡ room_of self.now - length (stacked W.Word.value self.now) }
-    {
-        MOST_PLACES.min(self.buf.len()) - self.place()
-    }
-
     // The position, as it counts.
     pub(crate) fn place(&self) -> usize
         ensures { result ≡ at self.now }
     {
-        self.pos.min(MOST_PLACES.min(self.buf.len()))
+        self.pos.min(self.room())
+    }
+
+    // How many slots can be places.
+    fn room(&self) -> usize
+        ensures { result ≡ room_of self.now }
+    {
+        MOST_PLACES.min(self.buf.len())
     }
 }
 
@@ -113,8 +70,15 @@ impl<'a, W: Word> WriteWords<W> for Cursor<'a, W> {
 
     ghost writes = { CursorWrote };
 
+    // Puts the word into the slot at the position and moves on.
     fn write(&mut self, word: W) -> Result<(), BoundedWriteError> {
-        self.put(word)
+        let at = self.place();
+        if at == self.room() {
+            return Err(BoundedWriteError::OutOfSpace);
+        }
+        self.buf[at] = word;
+        self.pos = at + 1;
+        Ok(())
     }
 }
 
@@ -123,8 +87,13 @@ impl<'a, W: Word> ReadWords<W, Stack> for Cursor<'a, W> {
 
     ghost reads = { CursorPopped };
 
+    // The word before the position, to which it moves.
     fn read(&mut self) -> Result<Option<W>, ReadFault> {
-        Ok(self.pop())
+        let Some(last) = self.place().checked_sub(1) else {
+            return Ok(None);
+        };
+        self.pos = last;
+        Ok(Some(self.buf[last]))
     }
 }
 
@@ -133,26 +102,32 @@ impl<'a, W: Word> ReadWords<W, Queue> for Cursor<'a, W> {
 
     ghost reads = { CursorTook };
 
+    // The word at the position, past which it moves.
     fn read(&mut self) -> Result<Option<W>, ReadFault> {
-        Ok(self.next())
+        let at = self.place();
+        if at == self.room() {
+            return Ok(None);
+        }
+        self.pos = at + 1;
+        Ok(Some(self.buf[at]))
     }
 }
 
 impl<'a, W: Word> BoundedReadWords<W, Stack> for Cursor<'a, W> {
     fn remaining(&self) -> usize {
-        self.held()
+        self.place()
     }
 }
 
 impl<'a, W: Word> BoundedReadWords<W, Queue> for Cursor<'a, W> {
     fn remaining(&self) -> usize {
-        self.ahead()
+        self.room() - self.place()
     }
 }
 
 impl<'a, W: Word> BoundedWriteWords<W> for Cursor<'a, W> {
     fn space_left(&self) -> usize {
-        self.ahead()
+        self.room() - self.place()
     }
 }
 
@@ -165,13 +140,13 @@ impl<'a, W: Word> WordSource<W, Queue> for Cursor<'a, W> {
 }
 
 impl<'a, W: Word> WordSink<W> for Cursor<'a, W> {
-    ghost within = { stack_within W.Word.value };
+    ghost within = { Prim.search (rules, common_steps) };
 
-    ghost bounded = { room_bounded };
+    ghost bounded = { Prim.search rules };
 }
 
 impl<'a, W: Word> WordStack<W> for Cursor<'a, W> {
     ghost newest = { λ c. refl };
 
-    ghost kept = { popped_keeps };
+    ghost kept = { Prim.search rules };
 }

@@ -1,15 +1,15 @@
 // A store read under the other reading name, and the cursor that is filled from the slice's end down.
-ghost use Rattle.std.specs.Prelude.{◌≡◌, ◌-◌, ◌^◌, ◌≤◌, length};
+ghost use Rattle.std.specs.Prelude.{◌^◌, ◌≤◌, length};
+ghost use Rattle.std.proofs.Common.{rules};
+ghost use Rattle.std.proofs.lemmas.Grind.{common_steps};
 ghost use Rattle.backends.specs.Answers.{told_write};
 ghost use Rattle.backends.specs.Slices.{Placed};
-ghost use Rattle.cursors.specs.Cursors.{room_of};
-ghost use Rattle.cursors.specs.Reversed.{PutBelow, SameStore, Turned, TurnedWrote, TurnsBack, reversed, turned_room, turned_stack};
-ghost use Rattle.cursors.specs.Laws.{took_keeps, turned_bounded, turned_newest, turned_within};
+ghost use Rattle.cursors.specs.Reversed.{PutBelow, SameStore, Turned, TurnedWrote, TurnsBack, turned_room, turned_stack};
 
 use super::cursor::Cursor;
 use backends::fault::{ReadFault, SeekError};
 use backends::traits::{
-    BoundedReadWords, BoundedWriteWords, Pos, Queue, ReadWords, Seek, Stack, WordSink, WordSource,
+    BoundedReadWords, BoundedWriteWords, Pos, ReadWords, Reversible, Seek, WordSink, WordSource,
     WordStack, WriteWords,
 };
 use words::Word;
@@ -19,55 +19,24 @@ use words::fault::BoundedWriteError;
 #[derive(Drop)]
 pub struct Reverse<B>(pub B);
 
-impl<W: Word, B: ReadWords<W, Stack>> ReadWords<W, Queue> for Reverse<B> {
+impl<W: Word, S: Reversible, B: ReadWords<W, S::Reversed>> ReadWords<W, S> for Reverse<B> {
     ghost coming = { λ s. B.ReadWords.coming s.0 };
 
     ghost reads = { λ s r t. B.ReadWords.reads s.0 r t.0 };
 
     fn read(&mut self) -> Result<Option<W>, ReadFault> {
-        <B as ReadWords<W, Stack>>::read(&mut self.0)
+        self.0.read()
     }
 }
 
-impl<W: Word, B: ReadWords<W, Queue>> ReadWords<W, Stack> for Reverse<B> {
-    ghost coming = { λ s. B.ReadWords.coming s.0 };
-
-    ghost reads = { λ s r t. B.ReadWords.reads s.0 r t.0 };
-
-    fn read(&mut self) -> Result<Option<W>, ReadFault> {
-        <B as ReadWords<W, Queue>>::read(&mut self.0)
-    }
-}
-
-impl<W: Word, B> BoundedReadWords<W, Queue> for Reverse<B>
-where
-    B: BoundedReadWords<W, Stack>,
-{
+impl<W: Word, S: Reversible, B: BoundedReadWords<W, S::Reversed>> BoundedReadWords<W, S>
+    for Reverse<B> {
     fn remaining(&self) -> usize {
-        <B as BoundedReadWords<W, Stack>>::remaining(&self.0)
+        self.0.remaining()
     }
 }
 
-impl<W: Word, B> BoundedReadWords<W, Stack> for Reverse<B>
-where
-    B: BoundedReadWords<W, Queue>,
-{
-    fn remaining(&self) -> usize {
-        <B as BoundedReadWords<W, Queue>>::remaining(&self.0)
-    }
-}
-
-impl<W: Word, B> WordSource<W, Queue> for Reverse<B>
-where
-    B: WordSource<W, Stack>,
-{
-    ghost fits = { λ s. B.WordSource.fits s.0 };
-}
-
-impl<W: Word, B> WordSource<W, Stack> for Reverse<B>
-where
-    B: WordSource<W, Queue>,
-{
+impl<W: Word, S: Reversible, B: WordSource<W, S::Reversed>> WordSource<W, S> for Reverse<B> {
     ghost fits = { λ s. B.WordSource.fits s.0 };
 }
 
@@ -86,20 +55,20 @@ impl<'a, W: Word> WriteWords<W> for Reverse<Cursor<'a, W>> {
 
 impl<'a, W: Word> BoundedWriteWords<W> for Reverse<Cursor<'a, W>> {
     fn space_left(&self) -> usize {
-        self.0.room_below()
+        self.0.place()
     }
 }
 
 impl<'a, W: Word> WordSink<W> for Reverse<Cursor<'a, W>> {
-    ghost within = { turned_within W.Word.value };
+    ghost within = { Prim.search (rules, common_steps) };
 
-    ghost bounded = { turned_bounded };
+    ghost bounded = { Prim.search rules };
 }
 
 impl<'a, W: Word> WordStack<W> for Reverse<Cursor<'a, W>> {
-    ghost newest = { turned_newest W.Word.value };
+    ghost newest = { Prim.search (rules, common_steps) };
 
-    ghost kept = { took_keeps };
+    ghost kept = { Prim.search rules };
 }
 
 // The position is the wrapped store's.
@@ -123,22 +92,13 @@ impl<B: Seek> Seek for Reverse<B> {
 
 impl<'a, W: Word> Cursor<'a, W> {
     // The same store, in the slice turned end for end.
+    #[tactic(auto, using(crate::proofs::Turns::turning))]
     pub fn into_reversed(self) -> Reverse<Cursor<'a, W>>
         ensures turned { Turned self.entry result.0 }
         ensures same { length self.entry.buf.now ≤ 2 ^ 56 → SameStore W.Word.value self.entry result }
         ensures back { Placed (length self.entry.buf.now) self.entry.pos → TurnsBack self.entry result.0 }
     {
-        Reverse(self.swapped())
-    }
-
-    // `turned`, with what that keeps.
-    fn swapped(self) -> Cursor<'a, W>
-        ensures turned { Turned self.entry result }
-        ensures there { length self.entry.buf.now ≤ 2 ^ 56 → SameStore W.Word.value self.entry (reversed result) }
-        ensures again { length self.entry.buf.now ≤ 2 ^ 56 → SameStore W.Word.value result (reversed self.entry) }
-        ensures back { Placed (length self.entry.buf.now) self.entry.pos → TurnsBack self.entry result }
-    {
-        self.turned()
+        Reverse(self.turned())
     }
 
     // The slice turned end for end, and the position counted from the other end.
@@ -151,35 +111,30 @@ impl<'a, W: Word> Cursor<'a, W> {
         Cursor { buf, pos }
     }
 
-    // How many slots are below the position: the room that the words from there on leave.
-    fn room_below(&self) -> usize
-        ensures { result ≡ room_of self.now - length (turned_stack W.Word.value (reversed self.now)) }
-    {
-        self.place()
-    }
-
-    // Puts a word into the slot below the position and moves there; refused without effect at the beginning.
+    // Puts a word into the slot below the position and moves there; refused without effect at the beginning. (Apart: with this body in
+    // `write` its `means` did not close.)
     fn put_below(&mut self, word: W) -> Result<(), BoundedWriteError>
         ensures { PutBelow self.old word (told_write result) self.new }
     {
-        let at = self.place();
-        if at == 0 {
-            return Err(BoundedWriteError::OutOfSpace);
-        }
-        self.buf[at - 1] = word;
-        self.pos = at - 1;
+        let below = self
+            .place()
+            .checked_sub(1)
+            .ok_or(BoundedWriteError::OutOfSpace)?;
+        self.buf[below] = word;
+        self.pos = below;
         Ok(())
     }
 }
 
 impl<'a, W: Word> Reverse<Cursor<'a, W>> {
     // The same store, in the slice turned end for end.
+    #[tactic(auto, using(crate::proofs::Turns::turning))]
     pub fn into_reversed(self) -> Cursor<'a, W>
         ensures turned { Turned self.entry.0 result }
         ensures same { length self.entry.0.buf.now ≤ 2 ^ 56 → SameStore W.Word.value result self.entry }
         ensures back { Placed (length self.entry.0.buf.now) self.entry.0.pos → TurnsBack self.entry.0 result }
     {
         let Reverse(cursor) = self;
-        cursor.swapped()
+        cursor.turned()
     }
 }

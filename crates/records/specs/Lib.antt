@@ -1,7 +1,6 @@
+pub mod ByteRecords
 pub mod Faults
+pub mod Held
 pub mod Laws
 pub mod Places
-pub mod Readers
-pub mod Reads
 pub mod Records
-pub mod Written

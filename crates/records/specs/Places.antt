@@ -1,22 +1,19 @@
 -- Lemmas: the places of byte records before and after a record number.
-use Rattle.std.proofs.Common.{◌≡◌, ℕ, ◌+◌, ◌-◌, ◌*◌, ◌/◌, ◌^◌, ◌<◌, ◌≤◌, min, Bool, true, false, cond, eqb, List, [], ◌∷◌, reverse, length, get_or, take, drop, sym, ap, ◌∙◌, arith}
-use lib.Count.{ones}
+use Rattle.std.proofs.Common.{◌≡◌, ℕ, ◌+◌, ◌-◌, ◌/◌, ◌^◌, ◌<◌, ◌≤◌, min, List, [], ◌∷◌, reverse, length, get_or, take, drop, sym, ap, ◌∙◌, arith}
+use Rattle.std.proofs.lemmas.List.{length-reverse}
 use Rattle.std.proofs.lemmas.List.FromFn.{length-range_with_len, get_or-range_with_len}
-use Rattle.model.specs.Cells.{Place, word, fault, Fits}
+use Rattle.std.proofs.lemmas.Grind.{common_steps}
+use Rattle.model.specs.Cells.{Place, Fits}
 use Rattle.backends.specs.Slices.{spread, before}
 use Rattle.backends.specs.Sources.{AllFit}
-use Rattle.backends.specs.Fronts.{how_many, how_many_left, length-turned, newest_first, none_before, rest_next, none_left}
+use Rattle.backends.specs.Fronts.{how_many, how_many_left, newest_first, none_before, rest_next, none_left}
 use Rattle.backends.specs.StoreLaws.{all_fit, each-reverse}
-use Rattle.records.specs.Records.{word_in, place_at, numbers, record_stack, record_queue, record_room, record_at}
+use Rattle.records.specs.Records.{place_at, numbers, record_stack, record_queue, record_room, record_at}
 
 -- ---- the words fit
 
-fits_either : (b : Bool) (n k : ℕ) → n < 2 ^ 32 → Fits 32 (cond b (word n) (fault k))
-fits_either true n k h = h
-fits_either false n k h = tt
-
 place_fits : (bytes : List ℕ) (i : ℕ) → Fits 32 (place_at bytes i)
-place_fits bytes i = fits_either (eqb (get_or bytes (5 * i + 4) 0) (ones (word_in bytes i))) (word_in bytes i) i (omega arith)
+place_fits bytes i = grind (arith, common_steps)
 
 pub stack_fits : (bytes : List ℕ) (pos : ℕ) → AllFit 32 (reverse (record_stack bytes pos))
 stack_fits bytes pos =
@@ -43,7 +40,7 @@ module _ (bytes : List ℕ) (pos n : ℕ) (is : n ≡ record_at bytes pos) where
   many = how_many (place_at bytes) (numbers bytes) pos n stands
 
   pub many_turned : length (reverse (record_stack bytes pos)) ≡ n
-  many_turned = length-turned (record_stack bytes pos) ∙ many
+  many_turned = length-reverse (record_stack bytes pos) ∙ many
 
   pub many_left : length (record_queue bytes pos) ≡ record_room bytes - n
   many_left = how_many_left (place_at bytes) (numbers bytes) pos n stands ∙ ap (λ k. k - n) (room_is bytes)
@@ -52,9 +49,9 @@ module _ (bytes : List ℕ) (pos n : ℕ) (is : n ≡ record_at bytes pos) where
 
   pub newest : (p : Place) → (n ≡ 0 → ⊥) → place_at bytes (n - 1) ≡ p → reverse (record_stack bytes pos) ≡ p ∷ reverse (record_stack bytes (n - 1))
   newest p some e =
-      newest_first (place_at bytes) (numbers bytes) pos n stands 0 some
-      ∙ ap (λ i. place_at bytes i ∷ reverse (record_stack bytes (n - 1))) (get_or-range_with_len 0 (length bytes / 5) (n - 1) 0 (omega arith) ∙ omega arith)
-      ∙ ap (λ q. q ∷ reverse (record_stack bytes (n - 1))) e
+      let first = newest_first (place_at bytes) (numbers bytes) pos n stands 0 some in
+      let number : get_or (numbers bytes) (n - 1) 0 ≡ n - 1 = get_or-range_with_len 0 (length bytes / 5) (n - 1) 0 (omega arith) ∙ omega arith in
+      cc
 
   pub none_held : n ≡ 0 → reverse (record_stack bytes pos) ≡ []
   none_held z = ap reverse (none_before (place_at bytes) (numbers bytes) pos n stands z)
@@ -62,9 +59,9 @@ module _ (bytes : List ℕ) (pos n : ℕ) (is : n ≡ record_at bytes pos) where
   pub next : (p : Place) → n < record_room bytes → place_at bytes n ≡ p → record_queue bytes pos ≡ p ∷ record_queue bytes (n + 1)
   next p h e =
       let l = many_numbers bytes in
-      rest_next (place_at bytes) (numbers bytes) pos n stands 0 (omega arith) (omega arith)
-      ∙ ap (λ i. place_at bytes i ∷ record_queue bytes (n + 1)) (get_or-range_with_len 0 (length bytes / 5) n 0 (omega arith) ∙ omega arith)
-      ∙ ap (λ q. q ∷ record_queue bytes (n + 1)) e
+      let first = rest_next (place_at bytes) (numbers bytes) pos n stands 0 (omega arith) (omega arith) in
+      let number : get_or (numbers bytes) n 0 ≡ n = get_or-range_with_len 0 (length bytes / 5) n 0 (omega arith) ∙ omega arith in
+      cc
 
   pub none_to_come : record_room bytes ≤ n → record_queue bytes pos ≡ []
   none_to_come h = let r = room_is bytes in none_left (place_at bytes) (numbers bytes) pos n stands (omega arith)

@@ -1,5 +1,5 @@
 -- Byte records of 32-bit words: the word's four bytes, lowest first, and then how many one bits it has.
-use Rattle.std.specs.Prelude.{◌≡◌, ℕ, ◌+◌, ◌-◌, ◌*◌, ◌/◌, ◌%◌, ◌^◌, ◌<◌, ◌≤◌, min, cond, List, [], ◌∷◌, ◌++◌, reverse, length, Some, None, Ok, Err, Option, Result, ◌==◌, count_ones, slice_index, slice_set}
+use Rattle.std.specs.Prelude.{◌≡◌, ℕ, ◌+◌, ◌*◌, ◌/◌, ◌%◌, ◌^◌, min, cond, List, length, Ok, Err, Result, ◌==◌, count_ones, slice_index, slice_set}
 use Rattle.std.specs.List.{range_with_len}
 use Rattle.model.specs.Bytes.{number_at}
 use Rattle.model.specs.Cells.{Place, word, fault}
@@ -42,20 +42,3 @@ RecordRead p (Err f) = p ≡ fault f.place
 abbrev pub put_record : List ℕ → ℕ → ℕ → List ℕ
 put_record bytes at w =
     slice_set (slice_set (slice_set (slice_set (slice_set bytes (5 * at) (w % 256)) (5 * at + 1) (w / 256 % 256)) (5 * at + 2) (w / 65536 % 256)) (5 * at + 3) (w / 16777216 % 256)) (5 * at + 4) (count_ones w)
-
--- how many records stand before the record number
-pub record RecordsHeld (bytes : List ℕ) (pos n : ℕ) : Type 0 where
-  pub at : n ≡ record_at bytes pos
-  pub listed : n ≡ length (record_stack bytes pos)
-  pub turned : n ≡ length (reverse (record_stack bytes pos))
-  pub left : record_room bytes - n ≡ length (record_queue bytes pos)
-
--- The record number for one more word, whose record is a place behind the others; none where there is no room.
-abbrev pub RecordFree : List ℕ → ℕ → Option ℕ → Type 0
-RecordFree bytes pos (Some at) =
-    (at ≡ record_at bytes pos)
-    × (5 * at + 5 ≤ length bytes)
-    × (length (record_stack bytes pos) < record_room bytes)
-    × ((w : ℕ) (put : List ℕ) → w < 2 ^ 32 → put ≡ put_record bytes at w → record_stack put (at + 1) ≡ record_stack bytes pos ++ (word (w % 2 ^ 32) ∷ []))
-    × ((w : ℕ) (put : List ℕ) → put ≡ put_record bytes at w → record_room put ≡ record_room bytes)
-RecordFree bytes pos None = length (record_stack bytes pos) ≡ record_room bytes

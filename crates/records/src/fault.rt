@@ -12,12 +12,12 @@ pub enum RecordError {
     Misplaced,
 }
 
-impl RecordError {
-    // The refusal that this is.
-    pub fn refusal(self) -> Refusal
-        ensures { result ≡ record_refusal self }
-    {
-        match self {
+// The refusal that an error is.
+impl From<RecordError> for Refusal {
+    ghost from_gives = { λ error r. r ≡ record_refusal error };
+
+    fn from(error: RecordError) -> Refusal {
+        match error {
             RecordError::Ragged => Refusal::Ragged,
             RecordError::Misplaced => Refusal::Misplaced,
         }

@@ -1,8 +1,7 @@
 // One record, and which bytes and record numbers make a store.
-ghost use Rattle.std.specs.Prelude.{◌≡◌, ◌+◌, ◌*◌, ◌/◌, ◌^◌, ◌≤◌, min, length};
+ghost use Rattle.std.specs.Prelude.{◌≡◌, ◌+◌, ◌*◌, ◌≤◌, length};
 ghost use Rattle.records.specs.Faults.{RecordsChecked};
-ghost use Rattle.records.specs.Records.{RecordFree, RecordRead, RecordsHeld, place_at, put_record};
-ghost use Rattle.records.specs.Reads.{NewestRead, NextRead};
+ghost use Rattle.records.specs.Records.{RecordRead, place_at, put_record};
 
 use super::fault::RecordError;
 use backends::fault::ReadFault;
@@ -24,92 +23,30 @@ pub fn check_records(len: usize, pos: usize) -> Result<(), RecordError>
     Ok(())
 }
 
-// A word that is read, and the record number once it is taken.
-pub(crate) struct Taken {
-    pub(crate) word: u32,
-    pub(crate) pos: usize,
-}
-
-// As many records of so many bytes as can be places.
-pub(crate) fn count(len: usize) -> usize
-    ensures { result ≡ min (2 ^ 56) (len / 5) }
-{
-    MOST_PLACES.min(len / RECORD_BYTES)
-}
-
-// How many records stand before the record number.
-pub(crate) fn held(bytes: &[u8], pos: usize) -> usize
-    ensures { RecordsHeld bytes.now pos result }
-{
-    pos.min(count(bytes.len()))
-}
-
-// The record number for one more word.
-pub(crate) fn free(bytes: &[u8], pos: usize) -> Option<usize>
-    ensures { RecordFree bytes.now pos result }
-{
-    let at = held(bytes, pos);
-    if at < count(bytes.len()) {
-        return Some(at);
-    }
-    None
-}
-
-// The newest word before the record number.
-pub(crate) fn newest(bytes: &[u8], pos: usize) -> Result<Option<Taken>, ReadFault>
-    ensures { NewestRead bytes.now pos result }
-{
-    let at = held(bytes, pos);
-    if at == 0 {
-        return Ok(None);
-    }
-    match record_at(bytes, at - 1) {
-        Ok(word) => Ok(Some(Taken { word, pos: at - 1 })),
-        Err(fault) => Err(fault),
-    }
-}
-
-// The next word from the record number on.
-pub(crate) fn next(bytes: &[u8], pos: usize) -> Result<Option<Taken>, ReadFault>
-    ensures { NextRead bytes.now pos result }
-{
-    let at = held(bytes, pos);
-    if at >= count(bytes.len()) {
-        return Ok(None);
-    }
-    match record_at(bytes, at) {
-        Ok(word) => Ok(Some(Taken { word, pos: at + 1 })),
-        Err(fault) => Err(fault),
-    }
-}
-
-// The word of a record that the bytes have, or the fault that it is.
+// The word of a record that the bytes have, or the fault that it is. (That they have it is of the bytes and a place together: a type for it
+// would hold the bytes.)
+#[tactic(auto, using(crate::proofs::Chunks::chunk_byte))]
 pub(crate) fn record_at(bytes: &[u8], at: usize) -> Result<u32, ReadFault>
     requires { 5 * at + 5 ≤ length bytes.now }
     ensures { RecordRead (place_at bytes.now at) result }
 {
-    let start = RECORD_BYTES * at;
-    let word = u32::from_le_bytes([
-        bytes[start],
-        bytes[start + 1],
-        bytes[start + 2],
-        bytes[start + 3],
-    ]);
-    if bytes[start + 4] as u32 == word.count_ones() {
-        return Ok(word);
+    let (records, _) = bytes.as_chunks::<RECORD_BYTES>();
+    let [a, b, c, d, ones] = records[at];
+    let word = u32::from_le_bytes([a, b, c, d]);
+    if u32::from(ones) != word.count_ones() {
+        return Err(ReadFault { place: at as u64 });
     }
-    Err(ReadFault { place: at as u64 })
+    Ok(word)
 }
 
 // Writes the record of a word where the bytes have its place.
+#[tactic(auto, using(crate::proofs::Chunks::put_five))]
 pub(crate) fn put_record(bytes: &mut [u8], at: usize, word: u32)
     requires { 5 * at + 5 ≤ length bytes.old }
     ensures { bytes.new ≡ put_record bytes.old at word }
 {
     let start = RECORD_BYTES * at;
-    bytes[start] = (word % 256) as u8;
-    bytes[start + 1] = (word / 256 % 256) as u8;
-    bytes[start + 2] = (word / 65536 % 256) as u8;
-    bytes[start + 3] = (word / 16777216 % 256) as u8;
-    bytes[start + 4] = word.count_ones() as u8;
+    let [a, b, c, d] = word.to_le_bytes();
+    let record = [a, b, c, d, word.count_ones() as u8];
+    bytes[start..start + RECORD_BYTES].copy_from_slice(&record);
 }

@@ -6,12 +6,22 @@ mod tests {
     use backends::fault::ReadFault;
     use backends::generic::replace_newest;
     use backends::small::SmallStore;
-    use backends::traits::{BoundedReadWords, BoundedWriteWords, ReadWords, WriteWords};
+    use backends::traits::{
+        BoundedReadWords, BoundedWriteWords, Queue, ReadWords, Semantics, Stack, WriteWords,
+    };
     use records::fault::RecordError;
     use records::reader::Records;
     use records::record::check_records;
     use records::store::RecordStore;
     use words::fault::BoundedWriteError;
+
+    // The next word in an order. (Each crate of tests has its own: a shared one would be a public call for tests alone.)
+    fn next<S: Semantics + Copy, B: ReadWords<u32, S>>(
+        _order: S,
+        store: &mut B,
+    ) -> Result<Option<u32>, ReadFault> {
+        store.read()
+    }
 
     // 12 goes before 7, and the end is a record number.
     #[test]
@@ -42,19 +52,10 @@ mod tests {
     fn faults_at_the_ends(rt: HostRuntime) {
         let bytes = [1, 0, 0, 0, 0, 1, 0, 0, 0, 1, 0xFF, 0xFF, 0xFF, 0xFF, 33];
         let mut first = Records::new_at_pos(&bytes, 0);
-        assert_eq!(rt;
-            <Records<'_> as ReadWords<u32, backends::traits::Queue>>::read(&mut first),
-            Err(ReadFault { place: 0 })
-        );
+        assert_eq!(rt; next(Queue, &mut first), Err(ReadFault { place: 0 }));
         let mut last = Records::new_at_pos(&bytes, 3);
-        assert_eq!(rt;
-            <Records<'_> as ReadWords<u32, backends::traits::Stack>>::read(&mut last),
-            Err(ReadFault { place: 2 })
-        );
-        assert_eq!(rt;
-            <Records<'_> as ReadWords<u32, backends::traits::Queue>>::read(&mut last),
-            Ok(None)
-        );
+        assert_eq!(rt; next(Stack, &mut last), Err(ReadFault { place: 2 }));
+        assert_eq!(rt; next(Queue, &mut last), Ok(None));
     }
 
     // A fault between two words is told again and again.
@@ -62,47 +63,23 @@ mod tests {
     fn a_fault_between(rt: HostRuntime) {
         let bytes = [1, 0, 0, 0, 1, 0xA7, 7, 0, 0, 7, 0, 0, 0, 0, 0];
         let mut records = Records::new_at_pos(&bytes, 3);
-        assert_eq!(rt;
-            <Records<'_> as ReadWords<u32, backends::traits::Stack>>::read(&mut records),
-            Ok(Some(0))
-        );
-        assert_eq!(rt;
-            <Records<'_> as ReadWords<u32, backends::traits::Stack>>::read(&mut records),
-            Err(ReadFault { place: 1 })
-        );
-        assert_eq!(rt;
-            <Records<'_> as ReadWords<u32, backends::traits::Stack>>::read(&mut records),
-            Err(ReadFault { place: 1 })
-        );
+        assert_eq!(rt; next(Stack, &mut records), Ok(Some(0)));
+        assert_eq!(rt; next(Stack, &mut records), Err(ReadFault { place: 1 }));
+        assert_eq!(rt; next(Stack, &mut records), Err(ReadFault { place: 1 }));
         let mut before = Records::new_at_pos(&bytes, 1);
-        assert_eq!(rt;
-            <Records<'_> as ReadWords<u32, backends::traits::Stack>>::read(&mut before),
-            Ok(Some(1))
-        );
-        assert_eq!(rt;
-            <Records<'_> as ReadWords<u32, backends::traits::Stack>>::read(&mut before),
-            Ok(None)
-        );
+        assert_eq!(rt; next(Stack, &mut before), Ok(Some(1)));
+        assert_eq!(rt; next(Stack, &mut before), Ok(None));
     }
 
     // No bytes at all, and bytes that are refused.
     #[test]
     fn nothing_there(rt: HostRuntime) {
         let mut none = Records::new_at_pos(&[], 0);
-        assert_eq!(rt;
-            <Records<'_> as ReadWords<u32, backends::traits::Stack>>::read(&mut none),
-            Ok(None)
-        );
-        assert_eq!(rt;
-            <Records<'_> as ReadWords<u32, backends::traits::Queue>>::read(&mut none),
-            Ok(None)
-        );
+        assert_eq!(rt; next(Stack, &mut none), Ok(None));
+        assert_eq!(rt; next(Queue, &mut none), Ok(None));
         let mut bytes = [1, 0, 0, 0, 1, 1];
         let mut ragged = RecordStore::new_at_pos(&mut bytes, 1);
-        assert_eq!(rt;
-            <RecordStore<'_> as ReadWords<u32, backends::traits::Stack>>::read(&mut ragged),
-            Ok(None)
-        );
+        assert_eq!(rt; next(Stack, &mut ragged), Ok(None));
         assert_eq!(rt; ragged.write(1), Err(BoundedWriteError::OutOfSpace));
     }
 
@@ -131,10 +108,7 @@ mod tests {
         let mut bytes = [1, 0, 0, 0, 1, 1, 0, 0, 0, 2];
         let mut good = RecordStore::new_at_pos(&mut bytes, 1);
         assert_eq!(rt; replace_newest(&mut good, 3), Ok(Some(1)));
-        assert_eq!(rt;
-            <RecordStore<'_> as ReadWords<u32, backends::traits::Stack>>::read(&mut good),
-            Ok(Some(3))
-        );
+        assert_eq!(rt; next(Stack, &mut good), Ok(Some(3)));
         let mut bad = RecordStore::new_at_pos(&mut bytes, 2);
         assert_eq!(rt; replace_newest(&mut bad, 3), Err(ReadFault { place: 1 }));
     }

@@ -3,13 +3,23 @@
 
 #[cfg(test)]
 mod tests {
-    use backends::fault::SeekError;
+    use backends::fault::{ReadFault, SeekError};
     use backends::generic::{extend_from_iter, replace_newest};
-    use backends::traits::{BoundedWriteWords, Pos, Queue, ReadWords, Seek, WriteWords};
+    use backends::traits::{
+        BoundedWriteWords, Pos, Queue, ReadWords, Seek, Semantics, Stack, WriteWords,
+    };
     use cursors::cursor::{Cursor, check_pos};
     use cursors::reverse::Reverse;
     use words::fault::BoundedWriteError;
     use words::{PartialWord, Word};
+
+    // The next word in an order. (Each crate of tests has its own: a shared one would be a public call for tests alone.)
+    fn next<W: Word, S: Semantics + Copy, B: ReadWords<W, S>>(
+        _order: S,
+        store: &mut B,
+    ) -> Result<Option<W>, ReadFault> {
+        store.read()
+    }
 
     #[test]
     fn eight_bits_and_no_ninth(rt: HostRuntime) {
@@ -28,13 +38,9 @@ mod tests {
 
     #[test]
     fn the_highest_one_bit_is_the_seal(rt: HostRuntime) {
-        match 0x0Du8.unsealed() {
-            Some(part) => {
-                assert_eq!(rt; part.len(), 3);
-                assert_eq!(rt; u8::padded(part), 5);
-            }
-            None => assert!(rt; false),
-        }
+        let part = 0x0Du8.unsealed().expect(&rt, "13 is a seal above 101");
+        assert_eq!(rt; part.len(), 3);
+        assert_eq!(rt; u8::padded(part), 5);
         assert!(rt; 0u32.unsealed().is_none());
         assert_eq!(rt; u32::from_u64(0xffff_ffff), Some(0xffff_ffff));
         assert_eq!(rt; u32::from_u64(0x1_0000_0000), None);
@@ -45,16 +51,8 @@ mod tests {
         let mut slots: [u8; 0] = [];
         let mut c = Cursor::new_at_pos(&mut slots, 0);
         assert_eq!(rt; c.write(7), Err(BoundedWriteError::OutOfSpace));
-        assert_eq!(rt;
-            <Cursor<'_, _> as backends::traits::ReadWords<_, backends::traits::Stack>>::read(
-                &mut c
-            ),
-            Ok(None)
-        );
-        assert_eq!(rt;
-            <Cursor<'_, _> as backends::traits::ReadWords<_, Queue>>::read(&mut c),
-            Ok(None)
-        );
+        assert_eq!(rt; next(Stack, &mut c), Ok(None));
+        assert_eq!(rt; next(Queue, &mut c), Ok(None));
         assert_eq!(rt; c.space_left(), 0);
     }
 
@@ -70,14 +68,8 @@ mod tests {
         assert_eq!(rt; d.seek(3), Err(SeekError::PastEnd));
         assert_eq!(rt; d.pos(), 2);
         assert_eq!(rt; d.seek(1), Ok(()));
-        assert_eq!(rt;
-            <Cursor<'_, _> as backends::traits::ReadWords<_, Queue>>::read(&mut d),
-            Ok(Some(2))
-        );
-        assert_eq!(rt;
-            <Cursor<'_, _> as backends::traits::ReadWords<_, Queue>>::read(&mut d),
-            Ok(None)
-        );
+        assert_eq!(rt; next(Queue, &mut d), Ok(Some(2)));
+        assert_eq!(rt; next(Queue, &mut d), Ok(None));
     }
 
     #[test]
@@ -91,19 +83,9 @@ mod tests {
             Err(BoundedWriteError::OutOfSpace)
         );
         assert_eq!(rt; c.space_left(), 0);
-        assert_eq!(rt;
-            <Cursor<'_, _> as backends::traits::ReadWords<_, backends::traits::Stack>>::read(
-                &mut c
-            ),
-            Ok(Some(7))
-        );
+        assert_eq!(rt; next(Stack, &mut c), Ok(Some(7)));
         assert_eq!(rt; replace_newest(&mut c, 9), Ok(Some(6)));
-        assert_eq!(rt;
-            <Cursor<'_, _> as backends::traits::ReadWords<_, backends::traits::Stack>>::read(
-                &mut c
-            ),
-            Ok(Some(9))
-        );
+        assert_eq!(rt; next(Stack, &mut c), Ok(Some(9)));
     }
 
     #[test]
@@ -113,14 +95,8 @@ mod tests {
         assert_eq!(rt; r.space_left(), 2);
         assert_eq!(rt; r.write(9), Ok(()));
         assert_eq!(rt; r.space_left(), 1);
-        assert_eq!(rt;
-            <Reverse<_> as backends::traits::ReadWords<_, backends::traits::Stack>>::read(&mut r),
-            Ok(Some(9))
-        );
-        assert_eq!(rt;
-            <Reverse<_> as backends::traits::ReadWords<_, backends::traits::Stack>>::read(&mut r),
-            Ok(Some(3))
-        );
+        assert_eq!(rt; next(Stack, &mut r), Ok(Some(9)));
+        assert_eq!(rt; next(Stack, &mut r), Ok(Some(3)));
     }
 
     #[test]
@@ -128,28 +104,15 @@ mod tests {
         let mut slots = [1u8, 2, 3, 4, 5];
         let mut c = Reverse(Cursor::new_at_pos(&mut slots, 3)).into_reversed();
         assert_eq!(rt; c.pos(), 2);
-        assert_eq!(rt;
-            <Cursor<'_, _> as backends::traits::ReadWords<_, Queue>>::read(&mut c),
-            Ok(Some(3))
-        );
-        assert_eq!(rt;
-            <Cursor<'_, _> as backends::traits::ReadWords<_, backends::traits::Stack>>::read(
-                &mut c
-            ),
-            Ok(Some(3))
-        );
+        assert_eq!(rt; next(Queue, &mut c), Ok(Some(3)));
+        assert_eq!(rt; next(Stack, &mut c), Ok(Some(3)));
     }
 
     #[test]
     fn the_newest_of_a_reversed_cursor_is_replaced(rt: HostRuntime) {
-        // the borrow checker knows of the type `Queue`, under which the cursor is read here, only where it is named
-        let _ = Queue;
         let mut slots = [1u8, 2, 3];
         let mut r = Reverse(Cursor::new_at_pos(&mut slots, 1));
         assert_eq!(rt; replace_newest(&mut r, 8), Ok(Some(2)));
-        assert_eq!(rt;
-            <Reverse<_> as backends::traits::ReadWords<_, backends::traits::Stack>>::read(&mut r),
-            Ok(Some(8))
-        );
+        assert_eq!(rt; next(Stack, &mut r), Ok(Some(8)));
     }
 }

@@ -1,5 +1,5 @@
 // Words of 8 bits on a medium of which single bytes may go bad: each byte is kept twice, and where the two differ the place is a fault.
-// docs/STORES.md walks through this crate; a store of your own can begin as a copy of it.
+// docs/STORES.md walks through this crate; a store of your own can begin as a copy of it, so it shares no code with the record store.
 #![tactic(auto)]
 
 ghost use Rattle.std.specs.Prelude.{◌≡◌, ◌+◌, ◌*◌, ◌<◌, reverse, length, refl};
@@ -17,7 +17,8 @@ use backends::traits::{
 use words::PartialWord;
 use words::fault::BoundedWriteError;
 
-// Slot i is the bytes 2i and 2i+1. As a stack it holds the slots before the position, and its capacity is the number of slots.
+// Slot i is the bytes 2i and 2i+1. As a stack it holds the slots before the position, and its capacity is the number of slots. The
+// position stands beside the bytes, since they are the caller's.
 #[derive(Drop)]
 pub struct TwiceStore<'a> {
     bytes: &'a mut [u8],
@@ -33,7 +34,7 @@ impl<'a> TwiceStore<'a> {
         let slots = bytes.len() / 2;
         if pos > slots || slots > MOST_PLACES {
             return TwiceStore {
-                bytes: &mut bytes[0..0],
+                bytes: &mut [],
                 pos: 0,
             };
         }
@@ -114,13 +115,9 @@ impl<'a> ReadWords<u8, Stack> for TwiceStore<'a> {
         if at == 0 {
             return Ok(None);
         }
-        match self.slot(at - 1) {
-            Ok(word) => {
-                self.pos = at - 1;
-                Ok(Some(word))
-            }
-            Err(fault) => Err(fault),
-        }
+        let word = self.slot(at - 1)?;
+        self.pos = at - 1;
+        Ok(Some(word))
     }
 }
 

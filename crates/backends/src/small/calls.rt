@@ -1,8 +1,10 @@
-// The calls of the small store.
-ghost use Rattle.std.specs.Prelude.{◌≡◌, [], reverse, replicate};
+// The calls of the small store. (In a file of their own: a struct with a ghost field imports all that its file's `ghost use` lines name,
+// and what these name cites the struct.)
+ghost use Rattle.std.specs.Prelude.{◌≡◌, [], reverse};
 ghost use Rattle.std.proofs.Common.{rules};
-ghost use Rattle.backends.specs.Small.{SmallCount, SmallFree, SmallHolds, SmallLast, SmallPopped, SmallWrote, small_places, small_room};
-ghost use Rattle.backends.specs.SmallLaws.{small_fits, small_within};
+ghost use Rattle.std.proofs.lemmas.Grind.{common_steps};
+ghost use Rattle.backends.specs.Small.{SmallHolds, SmallPopped, SmallWrote, small_places, small_room};
+ghost use Rattle.backends.specs.SmallLaws.{small_fits};
 
 use super::SmallStore;
 use crate::fault::ReadFault;
@@ -10,45 +12,28 @@ use crate::traits::{
     BoundedReadWords, BoundedWriteWords, ReadWords, Stack, WordSink, WordSource, WordStack,
     WriteWords,
 };
+use arrayvec::ArrayVec;
 use words::PartialWord;
 use words::fault::BoundedWriteError;
 
 impl SmallStore {
-    // Empty, with zeros in its array.
+    // Empty.
     pub fn new() -> SmallStore
         ensures empty { small_places result ≡ [] }
         ensures room { small_room result ≡ 8 }
-        ensures whole { SmallHolds result (replicate 8 0) 0 }
+        ensures whole { SmallHolds result [] }
     {
         SmallStore {
-            words: [0; 8],
-            len: 0,
+            words: ArrayVec::new(),
         }
     }
+}
 
-    // How many words are held.
-    fn held(&self) -> usize
-        ensures { SmallCount self.now result }
-    {
-        self.len
-    }
+impl Default for SmallStore {
+    ghost is_default = { λ s. SmallHolds s [] };
 
-    // The slot for one more word.
-    fn free(&self) -> Option<usize>
-        ensures { SmallFree self.now result }
-    {
-        if self.len < 8 { Some(self.len) } else { None }
-    }
-
-    // The slot of the newest word.
-    fn last(&self) -> Option<usize>
-        ensures { SmallLast self.now result }
-    {
-        if self.len == 0 {
-            None
-        } else {
-            Some(self.len - 1)
-        }
+    fn default() -> SmallStore {
+        SmallStore::new()
     }
 }
 
@@ -60,12 +45,9 @@ impl WriteWords<u64> for SmallStore {
     ghost writes = { SmallWrote };
 
     fn write(&mut self, word: u64) -> Result<(), BoundedWriteError> {
-        let Some(at) = self.free() else {
-            return Err(BoundedWriteError::OutOfSpace);
-        };
-        self.words[at] = word;
-        self.len = at + 1;
-        Ok(())
+        self.words
+            .try_push(word)
+            .map_err(|_| BoundedWriteError::OutOfSpace)
     }
 }
 
@@ -75,23 +57,19 @@ impl ReadWords<u64, Stack> for SmallStore {
     ghost reads = { SmallPopped };
 
     fn read(&mut self) -> Result<Option<u64>, ReadFault> {
-        let Some(at) = self.last() else {
-            return Ok(None);
-        };
-        self.len = at;
-        Ok(Some(self.words[at]))
+        Ok(self.words.pop())
     }
 }
 
 impl BoundedReadWords<u64, Stack> for SmallStore {
     fn remaining(&self) -> usize {
-        self.held()
+        self.words.len()
     }
 }
 
 impl BoundedWriteWords<u64> for SmallStore {
     fn space_left(&self) -> usize {
-        8 - self.held()
+        self.words.remaining_capacity()
     }
 }
 
@@ -100,7 +78,7 @@ impl WordSource<u64, Stack> for SmallStore {
 }
 
 impl WordSink<u64> for SmallStore {
-    ghost within = { small_within };
+    ghost within = { Prim.search (rules, common_steps) };
 
     ghost bounded = { Prim.search rules };
 }

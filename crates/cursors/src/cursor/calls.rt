@@ -4,7 +4,7 @@ ghost use Rattle.cursors.specs.Cursors.{OpenedAt, Sought, at, room_of};
 
 use super::Cursor;
 use backends::fault::SeekError;
-use backends::traits::{MOST_PLACES, Pos, Seek};
+use backends::traits::{Pos, Seek};
 use words::Word;
 
 impl<'a, W: Word> Cursor<'a, W> {
@@ -27,27 +27,23 @@ impl<'a, W: Word> Cursor<'a, W> {
     pub fn written(&self) -> &[W]
         ensures { result.now ≡ take (at self.now) self.now.buf.now }
     {
-        let at = self.place();
-        &self.buf[0..at]
+        &self.buf[..self.place()]
     }
 
     // The words from the position on.
     pub fn unwritten(&self) -> &[W]
         ensures { result.now ≡ drop (at self.now) self.now.buf.now }
     {
-        let (_, rest) = self.buf.split_at(self.place());
-        rest
+        &self.buf[self.place()..]
     }
 
-    // The slice and the position.
+    // The slice and the position. (Each store that gives its slice back says so: they share no type.)
     pub fn into_buf_and_pos(self) -> (&'a mut [W], usize)
         ensures lent { result.0.ghost_name ≡ self.entry.buf.ghost_name }
         ensures slots { result.0.now ≡ self.entry.buf.now }
         ensures pos { result.1 ≡ self.entry.pos }
     {
-        let pos = self.pos;
-        let buf = self.buf;
-        (buf, pos)
+        (self.buf, self.pos)
     }
 }
 
@@ -65,7 +61,7 @@ impl<'a, W: Word> Seek for Cursor<'a, W> {
     ghost seeks = { Sought };
 
     fn seek(&mut self, pos: usize) -> Result<(), SeekError> {
-        if pos > MOST_PLACES.min(self.buf.len()) {
+        if pos > self.room() {
             return Err(SeekError::PastEnd);
         }
         self.pos = pos;

@@ -1,7 +1,7 @@
 -- That so many slots are held, and what that makes of the places: the only proof of a call that is written by hand.
 use Rattle.std.proofs.Common.{◌≡◌, ◌+◌, ◌-◌, reverse, sym, refl, ap, ◌∙◌, arith}
+use Rattle.std.proofs.lemmas.List.{length-reverse}
 use Rattle.model.specs.Cells.{word, fault}
-use Rattle.backends.specs.Fronts.{length-turned}
 use Rattle.twice.specs.Places.{places_of, slots_before, slots_of}
 use Rattle.twice.specs.Slots.{many, more, newest, none, same-room}
 use Rattle.twice.proofs.TwiceStore.held.Goals as goal
@@ -16,7 +16,7 @@ returns c =
     record {
       at = is;
       listed = sym l;
-      turned = sym (length-turned (places_of bytes pos) ∙ l);
+      turned = sym (length-reverse (places_of bytes pos) ∙ l);
       none = λ z. let e = none bytes pos n is z in (e, e);
       good = λ w. newest bytes pos n is (word w);
       bad = λ k some e. (k, reverse (places_of bytes (n - 1)), newest bytes pos n is (fault k) some e, refl, refl);

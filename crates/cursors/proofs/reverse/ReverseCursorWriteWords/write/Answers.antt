@@ -1,14 +1,6 @@
 use Rattle.backends.specs.Answers.{told_write}
-use Rattle.cursors.proofs.Turns.{put_means, put_room}
+use Rattle.cursors.proofs.Turns.{put_means}
 use Rattle.cursors.proofs.reverse.ReverseCursorWriteWords.write.Goals as goal
 
-pub returns : goal.returns
-returns g c =
-    let s = c.args.self.now.0 in
-    let t = c.put_below.new.self in
-    let told = told_write c.put_below.result in
-    record {
-      means = put_means g.W.Word.value s t c.args.word told c.put_below.ensures;
-      same = put_room g.W.Word.value s t c.args.word told c.put_below.ensures;
-      does = c.put_below.ensures;
-    }
+pub returns-clause-means : goal.returns-clause-means
+returns-clause-means g c = put_means g.W.Word.value c.args.self.now.0 c.put_below.new.self c.args.word (told_write c.put_below.result) c.put_below.ensures
