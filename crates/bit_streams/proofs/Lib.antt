@@ -1,2 +1,3 @@
 pub mod Chained
+pub mod Given
 pub mod ReadChains

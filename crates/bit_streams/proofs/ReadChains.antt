@@ -1,24 +1,21 @@
 -- Symbols read one after the other into a slice.
-use Rattle.std.proofs.Common.{◌≡◌, ℕ, zero, suc, ◌+◌, ◌<◌, ◌≤◌, Bool, List, [], ◌∷◌, ◌++◌, length, drop, set, replicate, Ok, Err, sym, refl, ap, ◌∙◌, subst, append_assoc, append-nil, arith}
-use native.Mathlib.Numerals.{unary_clauses}
-use Rattle.std.proofs.lemmas.List.{drop_all, length_push}
+use Rattle.std.proofs.Common.{◌≡◌, ℕ, ◌+◌, ◌<◌, ◌≤◌, Bool, List, [], ◌∷◌, ◌++◌, length, get_or, drop, set, replicate, Ok, Err, sym, refl, ap, ◌∙◌, subst, append_assoc, append-nil, arith}
+use Rattle.std.proofs.lemmas.List.{drop_all, drop_more, get_or-replicate, length-replicate, length_push}
+use Rattle.std.proofs.Math.Seq.{set-append_seam}
 use Rattle.model.specs.declared.refusal.Refusal.{Refusal}
 use Rattle.model.specs.Codebooks.{Outcome}
 use Rattle.model.specs.Refusals.{Answer}
 use Rattle.bit_streams.specs.Several.{DecodedAll, ReadInto, none_asked, one_not_read, one-read}
 
 pub drop-replicate : {A : Type 0} (i n : ℕ) (a : A) → i < n → drop i (replicate n a) ≡ a ∷ drop (i + 1) (replicate n a)
-drop-replicate zero zero a l = absurd (omega arith)
-drop-replicate zero (suc n) a l = refl
-drop-replicate (suc i) zero a l = absurd (omega arith)
-drop-replicate (suc i) (suc n) a l = simp unary_clauses (simp unary_clauses at (drop-replicate i n a (omega arith)))
+drop-replicate i n a l =
+    drop_more (replicate n a) i a (omega (arith, length-replicate n a)) ∙ ap (λ x. x ∷ drop (i + 1) (replicate n a)) (get_or-replicate n i a a l)
 
 -- the slot behind those that are filled
 set_behind : {X : Type 0} (xs before : List X) (y : X) → length xs < length before → set (xs ++ drop (length xs) before) (length xs) y ≡ (xs ++ (y ∷ [])) ++ drop (length xs + 1) before
-set_behind [] [] y l = absurd (omega arith)
-set_behind [] (b ∷ before) y l = refl
-set_behind (x ∷ xs) [] y l = absurd (omega arith)
-set_behind (x ∷ xs) (b ∷ before) y l = simp unary_clauses (ap (λ t. x ∷ t) (simp unary_clauses at (set_behind xs before y (omega arith))))
+set_behind xs before y l =
+    ap (λ z. set (xs ++ z) (length xs) y) (drop_more before (length xs) y l)
+    ∙ set-append_seam xs (get_or before (length xs) y) (drop (length xs + 1) before) y ∙ sym (append_assoc xs (y ∷ []) (drop (length xs + 1) before))
 
 module _ {S X : Type 0} (decodes : S → (List Bool → Outcome X) → Answer X → S → Type 0) (s : S) (outcomes : List (List Bool → Outcome X)) (before : List X) where
   -- the first i are read, stand in their slots, and brought the stream from s to t

@@ -1,5 +1,7 @@
 -- Symbols of a list, one after the other.
 use Rattle.std.specs.Prelude.{◌≡◌, Bool, List, [], ◌∷◌, ◌++◌, length, drop, Ok, Err, Option}
+use Rattle.std.specs.Iterator.{AlwaysYields}
+use denote.Ref.{Bor}
 use Rattle.model.specs.declared.refusal.Refusal.{Refusal}
 use Rattle.model.specs.Codebooks.{Outcome}
 use Rattle.model.specs.Refusals.{Answer}
@@ -7,6 +9,14 @@ use Rattle.model.specs.Refusals.{Answer}
 -- the codeword of a symbol that is given with its codebook
 abbrev pub code_of : {X C : Type 0} → (C → X → Option (List Bool)) → X × C → Option (List Bool)
 code_of code p = code p.1 p.0
+
+-- the same, where the codebook is lent
+abbrev pub code_of_lent : {X C : Type 0} → (C → X → Option (List Bool)) → X × Bor C → Option (List Bool)
+code_of_lent code p = code p.1.now p.0
+
+-- An iterator gives values, one after the other, that f takes to ys, and then ends.
+unfoldable pub Gives : {I X Y : Type 0} → (I → Option X → I → Type 0) → (X → Y) → I → List Y → Type 0
+Gives gives f from ys = AlwaysYields gives f from ys
 
 -- Symbols read one after the other, by what decoding each comes to, up to the first that is refused: just these reads were made, with these
 -- symbols, and no more is tried after a refusal.

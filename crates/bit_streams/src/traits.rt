@@ -4,10 +4,8 @@ ghost use Rattle.model.specs.Codebooks.{Outcome};
 ghost use Rattle.model.specs.Refusals.{Answer};
 ghost use Rattle.codebooks.specs.Answers.{told_decode, told_encode};
 
-use backends::fault::ReadFault;
 use codebooks::book::{Codebook, DecoderCodebook, EncoderCodebook};
-use codebooks::fault::{CoderError, DefaultEncoderFrontendError, SymbolCodeError};
-use words::fault::BoundedWriteError;
+use codebooks::fault::{DecodeError, EncodeError};
 
 // Writes symbols.
 pub trait WriteBitStream {
@@ -18,7 +16,7 @@ pub trait WriteBitStream {
         &mut self,
         symbol: C::Symbol,
         book: &C,
-    ) -> Result<(), CoderError<DefaultEncoderFrontendError, BoundedWriteError>>
+    ) -> Result<(), EncodeError>
         ensures { encodes self.old (C.Codebook.code book.now symbol) (told_encode result) self.new };
 }
 
@@ -27,9 +25,6 @@ pub trait ReadBitStream {
     // what reading a symbol, by what decoding comes to and by its answer, makes of the whole stream
     ghost decodes: { (X : Type 0) → Self → (List Bool → Outcome X) → Answer X → Self → Type 0 };
 
-    fn decode_symbol<C: DecoderCodebook>(
-        &mut self,
-        book: &C,
-    ) -> Result<C::Symbol, CoderError<SymbolCodeError, ReadFault>>
+    fn decode_symbol<C: DecoderCodebook>(&mut self, book: &C) -> Result<C::Symbol, DecodeError>
         ensures { decodes C.Symbol self.old (C.Codebook.outcome book.now) (told_decode result) self.new };
 }

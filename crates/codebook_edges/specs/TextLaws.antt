@@ -1,9 +1,10 @@
 -- Lemma: the law of a text as a sink.
-use Rattle.std.specs.Prelude.{ℕ, ◌≤◌, List, length, take}
+use Rattle.std.specs.Prelude.{◌≤◌, length, take}
 use Rattle.std.proofs.Common.{arith}
 use Rattle.std.proofs.lemmas.List.{length-map, length-take}
+use Rattle.codebook_edges.specs.declared.written.WrittenText.{WrittenText}
 use Rattle.codebook_edges.specs.Texts.{cell_of, text_sink}
 
 -- it never holds more bits than it has room for
-pub text_within : (text : List ℕ) (len : ℕ) → length (text_sink text len).taken ≤ (text_sink text len).limit
-text_within text len = omega (arith, length-map (take len text) cell_of, length-take len text)
+pub text_within : (s : WrittenText) → length (text_sink s).taken ≤ (text_sink s).limit
+text_within s = omega (arith, length-map (take s.len s.text.now) cell_of, length-take s.len s.text.now)

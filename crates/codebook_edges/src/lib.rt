@@ -17,21 +17,16 @@ mod tests {
         encode_iid_symbols, encode_iid_symbols_reverse, encode_symbols, encode_symbols_reverse,
     };
     use codebooks::book::{DecoderCodebook, EncoderCodebook};
-    use codebooks::fault::{CoderError, SymbolCodeError};
+    use codebooks::default::{encode_prefix_by_suffix, encode_suffix_by_prefix};
+    use codebooks::fault::{CoderError, DecodeError, SymbolCodeError};
     use exp_golomb::ExpGolomb;
     use std::process::Abort;
     use std::test::Fail;
     use words::fault::BoundedWriteError;
     use words::{PartialWord, Word};
 
-    // What decoding came to.
-    #[derive(Clone, Copy, PartialEq, Eq, Debug)]
-    enum Answer {
-        Number(u64),
-        Dry,
-        Garbled,
-        Fault(u64),
-    }
+    // What decoding came to, at any width.
+    type Answer = Result<u64, DecodeError>;
 
     // Bits, the answer that they give, and how many of them are taken.
     #[derive(Clone, Copy)]
@@ -41,21 +36,21 @@ mod tests {
         taken: usize,
     }
 
-    fn told<N: Word>(answer: Result<N, CoderError<SymbolCodeError, ReadFault>>) -> Answer {
-        match answer {
-            Ok(symbol) => Answer::Number(symbol.to_u64()),
-            Err(CoderError::Frontend(SymbolCodeError::OutOfCompressedData)) => Answer::Dry,
-            Err(CoderError::Frontend(SymbolCodeError::InvalidCodeword)) => Answer::Garbled,
-            Err(CoderError::Backend(fault)) => Answer::Fault(fault.place),
-        }
+    fn decoded<N: Word>(source: &mut BitText) -> Answer {
+        let symbol = ExpGolomb::<N>::new().decode_symbol(source)?;
+        Ok(symbol.to_u64())
+    }
+
+    // How many of these bits were taken from their source.
+    fn taken(bits: &[u8], source: &BitText) -> usize {
+        bits.len().saturating_sub(source.rest().len())
     }
 
     fn reads<N: Word>(rt: &impl Abort, cases: &[Case]) {
         for case in cases {
             let mut source = BitText::new(case.bits);
-            let answer = told(ExpGolomb::<N>::new().decode_symbol(&mut source));
-            assert_eq!(rt; answer, case.answer);
-            assert_eq!(rt; source.taken(), case.taken);
+            assert_eq!(rt; decoded::<N>(&mut source), case.answer);
+            assert_eq!(rt; taken(case.bits, &source), case.taken);
         }
     }
 
@@ -63,7 +58,7 @@ mod tests {
     fn garbled(bits: &'static [u8], taken: usize) -> Case {
         Case {
             bits,
-            answer: Answer::Garbled,
+            answer: Err(CoderError::Frontend(SymbolCodeError::InvalidCodeword)),
             taken,
         }
     }
@@ -71,7 +66,15 @@ mod tests {
     fn number(bits: &'static [u8], number: u64, taken: usize) -> Case {
         Case {
             bits,
-            answer: Answer::Number(number),
+            answer: Ok(number),
+            taken,
+        }
+    }
+
+    fn fault(bits: &'static [u8], place: u64, taken: usize) -> Case {
+        Case {
+            bits,
+            answer: Err(CoderError::Backend(ReadFault { place })),
             taken,
         }
     }
@@ -88,15 +91,6 @@ mod tests {
         } else {
             None
         }
-    }
-
-    fn same(a: &[u8], b: &[u8]) -> bool {
-        for (x, y) in a.iter().zip(b) {
-            if *x != *y {
-                return false;
-            }
-        }
-        a.len() == b.len()
     }
 
     // ITU-T H.264, table 9-2: the first ten codewords.
@@ -122,9 +116,7 @@ mod tests {
             let mut back = [0u8; 7];
             let len = written(n as u32, &mut text, &mut back);
             assert_eq!(rt; len, Some(case.taken));
-            for (x, y) in text.iter().zip(case.bits) {
-                assert_eq!(rt; *x, *y);
-            }
+            assert!(rt; text.starts_with(case.bits));
         }
     }
 
@@ -152,10 +144,7 @@ mod tests {
                 }
                 assert_eq!(rt; value, u64::from(n).saturating_sub(u64::from(first)));
                 let mut source = BitText::new(&text);
-                assert_eq!(rt;
-                    told(ExpGolomb::<u8>::new().decode_symbol(&mut source)),
-                    Answer::Number(u64::from(n))
-                );
+                assert_eq!(rt; decoded::<u8>(&mut source), Ok(u64::from(n)));
             }
         }
     }
@@ -166,39 +155,27 @@ mod tests {
         let mut text = [0u8; 17];
         let mut back = [0u8; 17];
         assert_eq!(rt; written(255u8, &mut text, &mut back), Some(17));
-        assert!(rt; same(&text, b"00000000100000000"));
-        assert!(rt; same(&back, b"00000000100000000"));
+        assert_eq!(rt; text, *b"00000000100000000");
+        assert_eq!(rt; back, *b"00000000100000000");
         let mut source = BitText::new(&text);
-        assert_eq!(rt;
-            told(ExpGolomb::<u8>::new().decode_symbol(&mut source)),
-            Answer::Number(255)
-        );
+        assert_eq!(rt; decoded::<u8>(&mut source), Ok(255));
         let mut text = [0u8; 65];
         let mut back = [0u8; 65];
         assert_eq!(rt; written(0xffff_ffffu32, &mut text, &mut back), Some(65));
-        assert!(rt; same(&text, &back));
+        assert_eq!(rt; text, back);
         let mut source = BitText::new(&text);
-        assert_eq!(rt;
-            told(ExpGolomb::<u32>::new().decode_symbol(&mut source)),
-            Answer::Number(0xffff_ffff)
-        );
+        assert_eq!(rt; decoded::<u32>(&mut source), Ok(0xffff_ffff));
         let mut text = [0u8; 129];
         let mut back = [0u8; 129];
         assert_eq!(rt; written(u64::MAX, &mut text, &mut back), Some(129));
-        assert!(rt; same(&text, &back));
+        assert_eq!(rt; text, back);
         let mut source = BitText::new(&text);
-        assert_eq!(rt;
-            told(ExpGolomb::<u64>::new().decode_symbol(&mut source)),
-            Answer::Number(u64::MAX)
-        );
+        assert_eq!(rt; decoded::<u64>(&mut source), Ok(u64::MAX));
         let mut text = [0u8; 127];
         let mut back = [0u8; 127];
         assert_eq!(rt; written(u64::MAX - 1, &mut text, &mut back), Some(127));
         let mut source = BitText::new(&text);
-        assert_eq!(rt;
-            told(ExpGolomb::<u64>::new().decode_symbol(&mut source)),
-            Answer::Number(u64::MAX - 1)
-        );
+        assert_eq!(rt; decoded::<u64>(&mut source), Ok(u64::MAX - 1));
     }
 
     // All 256 numbers of 8 bits: the suffix is the prefix turned round, and both have the length of the clause.
@@ -215,11 +192,8 @@ mod tests {
                 assert_eq!(rt; *x, *y);
             }
             let mut source = BitText::new(&text);
-            assert_eq!(rt;
-                told(ExpGolomb::<u8>::new().decode_symbol(&mut source)),
-                Answer::Number(u64::from(n))
-            );
-            assert_eq!(rt; source.taken(), len);
+            assert_eq!(rt; decoded::<u8>(&mut source), Ok(u64::from(n)));
+            assert_eq!(rt; taken(&text, &source), len);
         }
         Ok(())
     }
@@ -240,26 +214,10 @@ mod tests {
                 garbled(b"0001", 4),
                 garbled(b"0000000000000", 13),
                 garbled(b"", 0),
-                Case {
-                    bits: b"00x1",
-                    answer: Answer::Fault(120),
-                    taken: 2,
-                },
-                Case {
-                    bits: b"0001x",
-                    answer: Answer::Fault(120),
-                    taken: 4,
-                },
-                Case {
-                    bits: b"x",
-                    answer: Answer::Fault(120),
-                    taken: 0,
-                },
-                Case {
-                    bits: b"00000000100000000",
-                    answer: Answer::Number(255),
-                    taken: 17,
-                },
+                fault(b"00x1", 120, 2),
+                fault(b"0001x", 120, 4),
+                fault(b"x", 120, 0),
+                number(b"00000000100000000", 255, 17),
             ],
         );
         reads::<u32>(
@@ -305,17 +263,35 @@ mod tests {
         let mut sink = WrittenText::new(&mut text);
         assert!(rt; book.encode_symbol_prefix(9, &mut sink).is_err());
         assert_eq!(rt; sink.taken(), 5);
-        assert!(rt; same(&text, b"00010"));
+        assert_eq!(rt; text, *b"00010");
         let mut text = [b'-'; 5];
         let mut sink = WrittenText::new(&mut text);
         assert!(rt; book.encode_symbol_suffix(9, &mut sink).is_err());
         assert_eq!(rt; sink.taken(), 5);
-        assert!(rt; same(&text, b"01010"));
+        assert_eq!(rt; text, *b"01010");
         let mut text = [b'-'; 7];
         let mut sink = WrittenText::new(&mut text);
         assert!(rt; book.encode_symbol_suffix(9, &mut sink).is_ok());
-        assert!(rt; same(&text, b"0101000"));
+        assert_eq!(rt; text, *b"0101000");
     }
+
+    // Each direction by way of the other, over a sink with room and over one that is too short.
+    #[test]
+    fn one_direction_is_made_of_the_other(rt: HostRuntime) {
+        let book = ExpGolomb::<u8>::new();
+        let mut text = [b'-'; 7];
+        assert!(rt; encode_prefix_by_suffix(&book, 9, &mut WrittenText::new(&mut text)).is_ok());
+        assert_eq!(rt; text, *b"0001010");
+        let mut text = [b'-'; 7];
+        assert!(rt; encode_suffix_by_prefix(&book, 9, &mut WrittenText::new(&mut text)).is_ok());
+        assert_eq!(rt; text, *b"0101000");
+        let mut text = [b'-'; 5];
+        let full = CoderError::Backend(BoundedWriteError::OutOfSpace);
+        let sent = encode_suffix_by_prefix(&book, 9, &mut WrittenText::new(&mut text));
+        assert_eq!(rt; sent, Err(full));
+        assert_eq!(rt; text, *b"01010");
+    }
+
     // Symbols one after the other: 0 is 1, 7 is 0001000 and 1 is 010. The first that does not fit ends it, and what fits of it stays.
     #[test]
     fn several_symbols_are_written(rt: HostRuntime) {
@@ -325,24 +301,24 @@ mod tests {
         let mut sink = WrittenText::new(&mut text);
         assert!(rt; encode_symbols(&mut sink, &pairs).is_ok());
         assert_eq!(rt; sink.taken(), 11);
-        assert!(rt; same(&text, b"10001000010-"));
+        assert_eq!(rt; text, *b"10001000010-");
         let mut text = [b'-'; 11];
         assert!(rt; encode_symbols_reverse(&mut WrittenText::new(&mut text), &pairs).is_ok());
-        assert!(rt; same(&text, b"01000010001"));
+        assert_eq!(rt; text, *b"01000010001");
         let mut text = [b'-'; 11];
         assert!(rt;
             encode_iid_symbols(&mut WrittenText::new(&mut text), &[0, 7, 1], &book).is_ok()
         );
-        assert!(rt; same(&text, b"10001000010"));
+        assert_eq!(rt; text, *b"10001000010");
         let mut text = [b'-'; 11];
         let sent = encode_iid_symbols_reverse(&mut WrittenText::new(&mut text), &[0, 7, 1], &book);
         assert!(rt; sent.is_ok());
-        assert!(rt; same(&text, b"01000010001"));
+        assert_eq!(rt; text, *b"01000010001");
         let mut text = [b'-'; 5];
         let full = CoderError::Backend(BoundedWriteError::OutOfSpace);
         let sent = encode_iid_symbols(&mut WrittenText::new(&mut text), &[0, 7, 1], &book);
         assert_eq!(rt; sent, Err(full));
-        assert!(rt; same(&text, b"10001"));
+        assert_eq!(rt; text, *b"10001");
     }
 
     // And read: the slots of symbols that are not read stay as they are.
@@ -352,13 +328,14 @@ mod tests {
         let mut symbols: [u8; 3] = [9, 9, 9];
         let read = decode_iid_symbols(&mut BitText::new(b"10001000010"), &book, &mut symbols);
         assert!(rt; read.is_ok());
-        assert!(rt; same(&symbols, &[0, 7, 1]));
+        assert_eq!(rt; symbols, [0, 7, 1]);
         let mut symbols: [u8; 3] = [9, 9, 9];
-        let mut source = BitText::new(b"100010");
+        let bits = b"100010";
+        let mut source = BitText::new(bits);
         let read = decode_iid_symbols(&mut source, &book, &mut symbols);
         let error = CoderError::Frontend(SymbolCodeError::InvalidCodeword);
         assert_eq!(rt; read, Err(SymbolsError { read: 1, error }));
-        assert_eq!(rt; source.taken(), 6);
-        assert!(rt; same(&symbols, &[0, 9, 9]));
+        assert_eq!(rt; taken(bits, &source), 6);
+        assert_eq!(rt; symbols, [0, 9, 9]);
     }
 }

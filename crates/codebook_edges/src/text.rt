@@ -1,73 +1,69 @@
-// Bits as text, for tests: a source that reads '0' and '1', and any other byte as a fault of that number; and a sink that writes them.
-ghost use Rattle.std.specs.Prelude.{◌≡◌, ◌≤◌};
-ghost use Rattle.codebook_edges.specs.Texts.{ByteAt, TextRead, cells_from};
+// Bits as text, for tests: a source that reads '0' and '1', and any other byte as a fault of that number.
+ghost use Rattle.std.specs.Prelude.{◌≡◌, map};
+ghost use Rattle.backends.specs.Answers.{told_read};
+ghost use Rattle.codebook_edges.specs.Texts.{ByteRead, TextRead, cell_of};
 
 use backends::fault::ReadFault;
-use codebooks::each::{read_each, read_to_one};
-use codebooks::streams::{BitSource, BitsRead, BitsSource};
+use codebooks::streams::{BitSource, BitsSource};
+use std::marker::Model;
 
 #[derive(Drop)]
 pub struct BitText<'a> {
-    text: &'a [u8],
-    next: usize,
+    rest: &'a [u8],
+}
+
+// It is seen as the bytes that are still to be read.
+impl<'a> Model for BitText<'a> {
+    ghost use Rattle.std.specs.Prelude.{ℕ, List};
+
+    ghost Value = { List ℕ };
+
+    ghost view = { λ t. t.rest.now };
 }
 
 impl<'a> BitText<'a> {
     // At the beginning of the text.
     pub fn new(text: &'a [u8]) -> BitText<'a>
-        ensures text { result.text.now ≡ text.now }
-        ensures next { result.next ≡ 0 }
+        ensures { result ≡ text.now }
     {
-        BitText { text, next: 0 }
+        BitText { rest: text }
     }
 
-    // How many bits were read.
-    pub fn taken(&self) -> usize
-        ensures { result ≡ self.now.next }
+    // What was not read.
+    pub fn rest(&self) -> &'a [u8]
+        ensures { result.now ≡ self.now }
     {
-        self.next
+        self.rest
     }
+}
 
-    // The byte at hand; none at the end.
-    fn byte(&self) -> Option<u8>
-        ensures { ByteAt self.now.text.now self.now.next result }
-    {
-        if self.next >= self.text.len() {
-            return None;
-        }
-        Some(self.text[self.next])
+// The bit that a byte is, or the fault.
+#[tactic(auto, using(crate::proofs::Bytes::other_byte))]
+fn bit_of(byte: u8) -> Result<bool, ReadFault>
+    ensures { ByteRead byte (told_read result) }
+{
+    match byte {
+        b'0' => Ok(false),
+        b'1' => Ok(true),
+        other => Err(ReadFault {
+            place: u64::from(other),
+        }),
     }
 }
 
 impl<'a> BitSource for BitText<'a> {
-    ghost coming = { λ t. cells_from t.text.now t.next };
+    ghost coming = { map cell_of };
 
-    ghost reads = { λ s r t. TextRead s.text.now s.next r t.text.now t.next };
+    ghost reads = { TextRead };
 
     fn next_bit(&mut self) -> Result<Option<bool>, ReadFault> {
-        let Some(byte) = self.byte() else {
+        let Some((byte, rest)) = self.rest.split_first() else {
             return Ok(None);
         };
-        if byte == b'0' {
-            self.next += 1;
-            return Ok(Some(false));
-        }
-        if byte == b'1' {
-            self.next += 1;
-            return Ok(Some(true));
-        }
-        Err(ReadFault {
-            place: u64::from(byte),
-        })
+        let bit = bit_of(*byte)?;
+        self.rest = rest;
+        Ok(Some(bit))
     }
 }
 
-impl<'a> BitsSource for BitText<'a> {
-    fn next_bits(&mut self, count: u32) -> Result<BitsRead, ReadFault> {
-        read_each(self, count)
-    }
-
-    fn next_one(&mut self) -> Result<Option<u64>, ReadFault> {
-        read_to_one(self)
-    }
-}
+impl<'a> BitsSource for BitText<'a> {}

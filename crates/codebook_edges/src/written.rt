@@ -3,10 +3,10 @@ ghost use Rattle.std.specs.Prelude.{◌≡◌};
 ghost use Rattle.codebook_edges.specs.TextLaws.{text_within};
 ghost use Rattle.codebook_edges.specs.Texts.{TextPut, digit_of, text_sink};
 
-use codebooks::each::emit_each;
 use codebooks::streams::{BitSink, BitsSink};
 use words::fault::BoundedWriteError;
 
+// The first `len` bytes are written; a list of its own could not show the lender that the bytes behind them stay.
 #[derive(Drop)]
 pub struct WrittenText<'a> {
     text: &'a mut [u8],
@@ -30,7 +30,7 @@ impl<'a> WrittenText<'a> {
     }
 }
 
-// '0' or '1'.
+// '0' or '1'. (std has no conversion of a `bool` into a digit.)
 fn digit(bit: bool) -> u8
     ensures { result ≡ digit_of bit }
 {
@@ -38,11 +38,11 @@ fn digit(bit: bool) -> u8
 }
 
 impl<'a> BitSink for WrittenText<'a> {
-    ghost held = { λ s. text_sink s.text.now s.len };
+    ghost held = { text_sink };
 
-    ghost emits = { λ s b r t. TextPut s.text.now s.len b r t.text.now t.len };
+    ghost emits = { TextPut };
 
-    ghost within = { λ s. text_within s.text.now s.len };
+    ghost within = { text_within };
 
     fn emit(&mut self, bit: bool) -> Result<(), BoundedWriteError> {
         let at = self.len;
@@ -55,8 +55,4 @@ impl<'a> BitSink for WrittenText<'a> {
     }
 }
 
-impl<'a> BitsSink for WrittenText<'a> {
-    fn emit_bits(&mut self, number: u64, count: u32) -> Result<(), BoundedWriteError> {
-        emit_each(self, number, count)
-    }
-}
+impl<'a> BitsSink for WrittenText<'a> {}

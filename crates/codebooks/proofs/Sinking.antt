@@ -1,25 +1,14 @@
 -- One list of bits after another handed to a sink.
-use Rattle.std.proofs.Common.{◌≡◌, ℕ, ◌+◌, ◌≤◌, Bool, List, [], ◌∷◌, ◌++◌, length, take, Ok, Err, sym, refl, ap, ◌∙◌, append_assoc, append-nil, suc-add, zero-add, arith, length-append}
-use lib.ListN.{length-map}
+use Rattle.std.proofs.Common.{◌≡◌, ◌+◌, ◌≤◌, Bool, List, [], ◌∷◌, ◌++◌, length, take, Ok, Err, sym, refl, ap, ◌∙◌, append_assoc, append-nil, arith, length-append}
+use Rattle.std.proofs.Math.Seq.{take-append-add}
 use Rattle.std.proofs.lemmas.List.{take-append-le}
-use Rattle.model.specs.Cells.{bit, bits}
+use Rattle.model.specs.Cells.{bits}
+pub use Rattle.model.proofs.CellLists.{bits-append, length-bits}
 use Rattle.model.specs.declared.refusal.Refusal.{Refusal}
 use Rattle.model.specs.Refusals.{Answer}
-use Rattle.model.specs.Sinks.{Sink, Stopped, Took, more}
+use Rattle.model.specs.Sinks.{Emitted, Sink, Stopped, Took, more}
 use Rattle.backends.specs.Chains.{WroteAll, none_left, one_written, one_refused}
 use Rattle.codebooks.specs.Sent.{Sent}
-
--- take (length v + n) (v ++ w)
-take_past : {A : Type 0} (v w : List A) (n : ℕ) → take (length v + n) (v ++ w) ≡ v ++ take n w
-take_past [] w n = ap (λ m. take m w) (zero-add n)
-take_past (x ∷ v) w n = ap (λ m. take m (x ∷ (v ++ w))) (suc-add (length v) n) ∙ ap (λ t. x ∷ t) (take_past v w n)
-
-pub bits-append : (v w : List Bool) → bits (v ++ w) ≡ bits v ++ bits w
-bits-append [] w = refl
-bits-append (b ∷ v) w = ap (λ cs. bit b ∷ cs) (bits-append v w)
-
-pub length-bits : (v : List Bool) → length (bits v) ≡ length v
-length-bits v = length-map v bit
 
 module _ (v w : List Bool) (s t : Sink) where
   -- how many cells are taken once v is
@@ -40,7 +29,7 @@ module _ (v w : List Bool) (s t : Sink) where
       let m : more s ≡ length v + more t = omega (arith, g, l) in (
         omega (arith, length-append v w, g, l),
         e' ∙ ap (λ cs. cs ++ bits (take (more t) w)) e ∙ append_assoc s.taken (bits v) (bits (take (more t) w))
-            ∙ ap (λ cs. s.taken ++ cs) (sym (bits-append v (take (more t) w)) ∙ ap bits (sym (ap (λ n. take n (v ++ w)) m ∙ take_past v w (more t)))),
+            ∙ ap (λ cs. s.taken ++ cs) (sym (bits-append v (take (more t) w)) ∙ ap bits (sym (ap (λ n. take n (v ++ w)) m ∙ take-append-add v w (more t)))),
         l' ∙ l,
       )
 
@@ -73,3 +62,11 @@ module _ {S : Type 0} (held : S → Sink) (emits : S → Bool → Answer (Unit {
   -- No bits at all.
   pub sent_none : (s : S) → length (held s).taken ≤ (held s).limit → Sent held emits [] s (Ok tt) s
   sent_none s within = record { means = (omega arith, sym (append-nil (held s).taken), refl); does = none_left }
+
+  -- One bit more.
+  pub sent_bit : (v : List Bool) (b : Bool) (s t u : S) → Sent held emits v s (Ok tt) t → Emitted (b ∷ []) (held t) (Ok tt) (held u) → emits t b (Ok tt) u → Sent held emits (v ++ (b ∷ [])) s (Ok tt) u
+  sent_bit v b s t u a m d = sent_more v (b ∷ []) s t u (Ok tt) a (record { means = m; does = one_written d none_left })
+
+  -- A bit that is refused, and what would have come behind it.
+  pub sent_refused : (v : List Bool) (b : Bool) (rest : List Bool) (s t u : S) (e : Refusal) → Sent held emits v s (Ok tt) t → Emitted (b ∷ []) (held t) (Err e) (held u) → emits t b (Err e) u → Sent held emits (v ++ (b ∷ rest)) s (Err e) u
+  sent_refused v b rest s t u e a m d = sent_more v (b ∷ rest) s t u (Err e) a (sent_front (b ∷ []) rest t u e (record { means = m; does = one_refused d }))

@@ -1,45 +1,19 @@
 -- A codeword in a scratch, and the codeword in the other direction.
-use Rattle.std.proofs.Common.{◌≡◌, ℕ, ◌≤◌, Bool, List, [], ◌∷◌, ◌++◌, reverse, length, Some, None, Ok, Err, Option, sym, refl, ap, ◌∙◌, subst, arith}
-use mathlib.Core.List.{reverse-reverse}
-use Rattle.std.proofs.lemmas.List.{length-reverse}
-use Rattle.model.specs.Cells.{ahead, bits}
-use Rattle.model.specs.declared.refusal.Refusal.{Refusal}
-use Rattle.model.specs.declared.refusal.Refusal.TheVariants.{Unlisted}
+use Rattle.std.proofs.Common.{◌≡◌, Bool, List, [], ◌++◌, reverse, Some, None, Ok, Option, sym, refl, ap, ◌∙◌, subst}
+use Rattle.std.proofs.lemmas.List.{reverse-reverse}
+use Rattle.model.specs.Cells.{bits}
 use Rattle.model.specs.Refusals.{Answer}
 use Rattle.model.specs.Sinks.{Encoded, Sink, reversed}
+use Rattle.model.proofs.Packing.{bits-same}
 use Rattle.codebooks.specs.Chains.{HandedOver}
 use Rattle.codebooks.specs.Collected.{Coded}
+use Rattle.codebooks.specs.declared.scratch.Scratch.{Scratch}
+use Rattle.codebooks.specs.Scratches.{scratch_bits, scratch_sink}
 use Rattle.codebooks.specs.Sent.{Sent}
 
-ahead_of : (v : List Bool) → ahead (bits v) ≡ v
-ahead_of [] = refl
-ahead_of (b ∷ v) = ap (λ t. b ∷ t) (ahead_of v)
-
-pub same_bits : (v w : List Bool) → bits v ≡ bits w → v ≡ w
-same_bits v w e = sym (ahead_of v) ∙ ap ahead e ∙ ahead_of w
-
--- An empty scratch of 256 bits refuses only a symbol that has no codeword.
-pub only_unlisted : (o : Option (List Bool)) (s s' : Sink) (f : Refusal) → ((w : List Bool) → o ≡ Some w → length w ≤ 256) → s.taken ≡ [] → s.limit ≡ 256 → Encoded o s (Err f) s' → (o ≡ None) × (f ≡ Unlisted)
-only_unlisted None s s' f few empty limit (e, same) = (refl, cc)
-only_unlisted (Some w) s s' f few empty limit (full, (none, e, l')) =
-    let l : length s.taken ≡ 0 = ap length empty in
-    let h = few w refl in
-    absurd (omega (arith, l, limit, h))
-
-pub all_taken : (o : Option (List Bool)) (s s' : Sink) → s.taken ≡ [] → Encoded o s (Ok tt) s' → (w : List Bool) × (o ≡ Some w) × (s'.taken ≡ bits w)
-all_taken None s s' empty (e, same) = let no : ◌≡◌ {A = ℕ} 0 1 = cc in absurd (omega arith)
-all_taken (Some w) s s' empty (room, e, l) = (w, refl, e ∙ ap (λ t. t ++ bits w) empty)
-
-pub reversed_none : (o : Option (List Bool)) → reversed o ≡ None → o ≡ None
-reversed_none None e = refl
-reversed_none (Some v) e = let no : ◌≡◌ {A = ℕ} 0 1 = cc in absurd (omega arith)
-
-pub reversed_some : (o : Option (List Bool)) (w : List Bool) → reversed o ≡ Some w → o ≡ Some (reverse w)
-reversed_some None w e = let no : ◌≡◌ {A = ℕ} 0 1 = cc in absurd (omega arith)
-reversed_some (Some v) w e = let i : reverse v ≡ w = cc in ap Some (sym (reverse-reverse v) ∙ ap reverse i)
-
-pub reversed_few : (o : Option (List Bool)) → ((v : List Bool) → o ≡ Some v → length v ≤ 256) → (w : List Bool) → reversed o ≡ Some w → length w ≤ 256
-reversed_few o few w e = let h = few (reverse w) (reversed_some o w e) in omega (arith, h, length-reverse w)
+pub reversed_twice : (o : Option (List Bool)) → reversed (reversed o) ≡ o
+reversed_twice (Some v) = ap Some (reverse-reverse v)
+reversed_twice None = refl
 
 -- Bits that are handed over are those of a codeword.
 pub coded : {S : Type 0} (held : S → Sink) (emits : S → Bool → Answer (Unit {0}) → S → Type 0) (v : List Bool) (s t : S) (r : Answer (Unit {0})) → Sent held emits v s r t → (code : Option (List Bool)) → code ≡ Some v → Coded held emits code s r t
@@ -47,3 +21,12 @@ coded held emits v s t r a code e = record {
   means = subst (λ x. Encoded x (held s) r (held t)) (sym e) a.means;
   does = subst (λ x. HandedOver emits x s r t) (sym e) a.does;
 }
+
+-- A scratch that was empty has taken all of a codeword.
+whole : (o : Option (List Bool)) (before after : Scratch) → scratch_bits before ≡ [] → Encoded o (scratch_sink before) (Ok tt) (scratch_sink after) → o ≡ Some (scratch_bits after)
+whole None before after empty (e, same) = cc
+whole (Some v) before after empty (room, e, l) = ap Some (sym (bits-same (scratch_bits after) v (e ∙ ap (λ w. bits w ++ bits v) empty)))
+
+-- The bits of that scratch, newest first, are the codeword in the other direction.
+pub turned : {S : Type 0} (held : S → Sink) (emits : S → Bool → Answer (Unit {0}) → S → Type 0) (o code : Option (List Bool)) (before after : Scratch) (s t : S) (r : Answer (Unit {0})) → reversed o ≡ code → scratch_bits before ≡ [] → Encoded o (scratch_sink before) (Ok tt) (scratch_sink after) → Sent held emits (reverse (scratch_bits after)) s r t → Coded held emits code s r t
+turned held emits o code before after s t r is empty taken sent = coded held emits (reverse (scratch_bits after)) s t r sent code (sym is ∙ ap reversed (whole o before after empty taken))

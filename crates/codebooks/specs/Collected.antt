@@ -1,16 +1,20 @@
 -- A codeword that is collected in a scratch, and what is handed on from there.
-use Rattle.std.specs.Prelude.{◌≡◌, Bool, List, reverse, Some, None, Ok, Err, Option}
-use Rattle.model.specs.declared.refusal.Refusal.TheVariants.{Unlisted}
+use Rattle.std.specs.Prelude.{◌≡◌, Bool, List, Result, Option}
+use Rattle.std.specs.Borrow.{Bor, MutBor}
 use Rattle.model.specs.Refusals.{Answer}
 use Rattle.model.specs.Sinks.{Encoded, Sink}
-use Rattle.codebooks.specs.Chains.{HandedOver}
+use Rattle.words.specs.declared.fault.BoundedWriteError.{BoundedWriteError}
+use Rattle.codebooks.specs.declared.fault.CoderError.{CoderError}
+use Rattle.codebooks.specs.declared.fault.DefaultEncoderFrontendError.{DefaultEncoderFrontendError}
 use Rattle.codebooks.specs.declared.scratch.Scratch.{Scratch}
-use Rattle.codebooks.specs.Scratches.{scratch_bits}
+use Rattle.codebooks.specs.Answers.{told_encode}
+use Rattle.codebooks.specs.Chains.{HandedOver}
+use Rattle.codebooks.specs.Scratches.{scratch_sink}
 
--- The scratch has the codeword from its last bit to its first; or there is none.
-abbrev pub Collected : Option (List Bool) → Answer Scratch → Type 0
-Collected code (Ok scratch) = code ≡ Some (reverse (scratch_bits scratch))
-Collected code (Err e) = (code ≡ None) × (e ≡ Unlisted)
+-- What a call of a codebook hands to a scratch is a codeword, or none.
+abbrev pub Fills : {B X : Type 0} → (Bor B → X → MutBor Scratch → Result (Unit {0}) (CoderError DefaultEncoderFrontendError BoundedWriteError) → MutBor Scratch → Type 0) → B → X → Option (List Bool) → Type 0
+Fills {B} {X} calls book symbol code =
+    (b : Bor B) (s : MutBor Scratch) (r : Result (Unit {0}) (CoderError DefaultEncoderFrontendError BoundedWriteError)) (t : MutBor Scratch) → b.now ≡ book → calls b symbol s r t → Encoded code (scratch_sink s.now) (told_encode r) (scratch_sink t.now)
 
 -- A codeword handed to a sink: by what it holds, and by its own calls.
 pub record Coded {S : Type 0} (held : S → Sink) (emits : S → Bool → Answer (Unit {0}) → S → Type 0) (code : Option (List Bool)) (s : S) (r : Answer (Unit {0})) (t : S) : Type 0 where

@@ -6,10 +6,8 @@ ghost use Rattle.model.specs.Sinks.{Encoded, reversed};
 ghost use Rattle.codebooks.specs.Answers.{told_decode, told_encode};
 ghost use Rattle.codebooks.specs.Chains.{HandedOver, Reached};
 
-use super::fault::{CoderError, DefaultEncoderFrontendError, SymbolCodeError};
+use super::fault::{DecodeError, EncodeError};
 use super::streams::{BitSink, BitSource, BitsSink, BitsSource};
-use backends::fault::ReadFault;
-use words::fault::BoundedWriteError;
 
 // Symbols and their codewords.
 pub trait Codebook {
@@ -42,7 +40,7 @@ pub trait EncoderCodebook: PrefixCode {
         &self,
         symbol: Self::Symbol,
         sink: &mut K,
-    ) -> Result<(), CoderError<DefaultEncoderFrontendError, BoundedWriteError>>
+    ) -> Result<(), EncodeError>
         ensures means { Encoded (Self.Codebook.code self.now symbol) (K.BitSink.held sink.old) (told_encode result) (K.BitSink.held sink.new) }
         ensures does { HandedOver K.BitSink.emits (Self.Codebook.code self.now symbol) sink.old (told_encode result) sink.new };
 
@@ -51,17 +49,14 @@ pub trait EncoderCodebook: PrefixCode {
         &self,
         symbol: Self::Symbol,
         sink: &mut K,
-    ) -> Result<(), CoderError<DefaultEncoderFrontendError, BoundedWriteError>>
+    ) -> Result<(), EncodeError>
         ensures means { Encoded (reversed (Self.Codebook.code self.now symbol)) (K.BitSink.held sink.old) (told_encode result) (K.BitSink.held sink.new) }
         ensures does { HandedOver K.BitSink.emits (reversed (Self.Codebook.code self.now symbol)) sink.old (told_encode result) sink.new };
 }
 
 // Reads symbols.
 pub trait DecoderCodebook: PrefixCode {
-    fn decode_symbol<R: BitsSource>(
-        &self,
-        source: &mut R,
-    ) -> Result<Self::Symbol, CoderError<SymbolCodeError, ReadFault>>
+    fn decode_symbol<R: BitsSource>(&self, source: &mut R) -> Result<Self::Symbol, DecodeError>
         ensures means { Decoded (Self.Codebook.outcome self.now (ahead (R.BitSource.coming source.old))) (R.BitSource.coming source.old) (told_decode result) (R.BitSource.coming source.new) }
         ensures does { Reached R.BitSource.reads source.old source.new };
 }

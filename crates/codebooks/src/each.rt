@@ -5,7 +5,7 @@ ghost use Rattle.backends.specs.Answers.{told_read, told_write};
 ghost use Rattle.codebooks.specs.Chains.{Reached};
 ghost use Rattle.codebooks.specs.Sent.{Sent};
 ghost use Rattle.codebooks.specs.Streams.{ManyRead, OneRead, handed};
-ghost use Rattle.codebooks.specs.Told.{RunRead, told_bits};
+ghost use Rattle.codebooks.specs.Told.{told_bits};
 
 use super::streams::{BitSink, BitSource, BitsRead};
 use backends::fault::ReadFault;
@@ -15,19 +15,8 @@ use words::fault::BoundedWriteError;
 pub fn emit_each<K: BitSink>(sink: &mut K, number: u64, count: u32) -> Result<(), BoundedWriteError>
     ensures { Sent K.BitSink.held K.BitSink.emits (handed number count) sink.old (told_write result) sink.new }
 {
-    emit_low(sink, number, count.min(64))
-}
-
-// The loop of it.
-fn emit_low<K: BitSink>(sink: &mut K, number: u64, most: u32) -> Result<(), BoundedWriteError>
-    requires { most ≤ 64 }
-    ensures { Sent K.BitSink.held K.BitSink.emits (low_bits most number) sink.old (told_write result) sink.new }
-{
-    for i in 0..most {
-        match sink.emit((number >> i) % 2 == 1) {
-            Ok(()) => {}
-            Err(full) => return Err(full),
-        }
+    for i in 0..count.min(64) {
+        sink.emit((number >> i) % 2 == 1)?;
     }
     Ok(())
 }
@@ -37,25 +26,13 @@ pub fn read_each<R: BitSource>(source: &mut R, count: u32) -> Result<BitsRead, R
     ensures means { ManyRead (min count 64) (R.BitSource.coming source.old) (told_bits result) (R.BitSource.coming source.new) }
     ensures does { Reached R.BitSource.reads source.old source.new }
 {
-    read_up_to(source, count.min(64))
-}
-
-// The loop of it.
-fn read_up_to<R: BitSource>(source: &mut R, most: u32) -> Result<BitsRead, ReadFault>
-    requires { most ≤ 64 }
-    ensures means { ManyRead most (R.BitSource.coming source.old) (told_bits result) (R.BitSource.coming source.new) }
-    ensures does { Reached R.BitSource.reads source.old source.new }
-{
+    let most = count.min(64);
     let mut number: u64 = 0;
     for i in 0..most {
-        let next = match source.next_bit() {
-            Ok(next) => next,
-            Err(fault) => return Err(fault),
+        let Some(bit) = source.next_bit()? else {
+            return Ok(BitsRead { number, count: i });
         };
-        match next {
-            Some(bit) => number = 2 * number + u64::from(bit),
-            None => return Ok(BitsRead { number, count: i }),
-        }
+        number = 2 * number + u64::from(bit);
     }
     Ok(BitsRead {
         number,
@@ -68,43 +45,12 @@ pub fn read_to_one<R: BitSource>(source: &mut R) -> Result<Option<u64>, ReadFaul
     ensures means { OneRead (R.BitSource.coming source.old) (told_read result) (R.BitSource.coming source.new) }
     ensures does { Reached R.BitSource.reads source.old source.new }
 {
-    let run = read_zeros(source)?;
-    if run.ended {
-        Ok(None)
-    } else {
-        Ok(Some(run.zeros))
-    }
-}
-
-// Zero bits that were read, and whether the end came after them, in place of a one bit.
-#[derive(Clone, Copy)]
-struct ZeroRun {
-    zeros: u64,
-    ended: bool,
-}
-
-// The loop of it.
-fn read_zeros<R: BitSource>(source: &mut R) -> Result<ZeroRun, ReadFault>
-    ensures means { RunRead (R.BitSource.coming source.old) (told_read result) (R.BitSource.coming source.new) }
-    ensures does { Reached R.BitSource.reads source.old source.new }
-{
     let mut zeros: u64 = 0;
-    loop {
-        let next = match source.next_bit() {
-            Ok(next) => next,
-            Err(fault) => return Err(fault),
-        };
-        match next {
-            Some(one) => {
-                if one {
-                    return Ok(ZeroRun {
-                        zeros,
-                        ended: false,
-                    });
-                }
-                zeros = zeros.saturating_add(1);
-            }
-            None => return Ok(ZeroRun { zeros, ended: true }),
+    while let Some(one) = source.next_bit()? {
+        if one {
+            return Ok(Some(zeros));
         }
+        zeros = zeros.saturating_add(1);
     }
+    Ok(None)
 }

@@ -9,40 +9,24 @@ use model::refusal::Refusal;
 use std::fmt;
 use words::fault::BoundedWriteError;
 
-// An error of a codebook (`Frontend`), or of what lies below it (`Backend`).
+// An error of a codebook (`Frontend`), or of what lies below it (`Backend`). (No `Result`: both are errors, under constriction's names.)
 #[derive(Clone, Copy, PartialEq, Eq, Debug)]
 pub enum CoderError<F, B> {
     Frontend(F),
     Backend(B),
 }
 
+// Why a symbol is not written.
+pub type EncodeError = CoderError<DefaultEncoderFrontendError, BoundedWriteError>;
+
+// Why a symbol is not read.
+pub type DecodeError = CoderError<SymbolCodeError, ReadFault>;
+
 // Why a codebook does not write a symbol.
 #[derive(Clone, Copy, PartialEq, Eq, Debug)]
 pub enum DefaultEncoderFrontendError {
     // The symbol has no codeword.
     ImpossibleSymbol,
-}
-
-impl DefaultEncoderFrontendError {
-    // The refusal that this is.
-    pub fn refusal(self) -> Refusal
-        ensures { result ≡ encoder_refusal self }
-    {
-        match self {
-            DefaultEncoderFrontendError::ImpossibleSymbol => Refusal::Unlisted,
-        }
-    }
-
-    // What it is shown as.
-    fn text(self) -> &'static str
-        ensures { result.now ≡ encoder_text self }
-    {
-        match self {
-            DefaultEncoderFrontendError::ImpossibleSymbol => {
-                "Tried to encode a symbol that has no codeword."
-            }
-        }
-    }
 }
 
 // Why a codebook reads no symbol.
@@ -55,50 +39,64 @@ pub enum SymbolCodeError {
 }
 
 impl SymbolCodeError {
-    // The refusal that this is.
-    pub fn refusal(self) -> Refusal
-        ensures { result ≡ symbol_refusal self }
+    // As the error of a codebook, over a source. (A conversion under this name, since the Rust crate constriction has it.)
+    pub fn into_coder_error(self) -> DecodeError
+        ensures { result ≡ Frontend self }
     {
-        match self {
+        DecodeError::from(self)
+    }
+}
+
+impl From<DefaultEncoderFrontendError> for Refusal {
+    ghost from_gives = { λ error r. r ≡ encoder_refusal error };
+
+    fn from(error: DefaultEncoderFrontendError) -> Refusal {
+        match error {
+            DefaultEncoderFrontendError::ImpossibleSymbol => Refusal::Unlisted,
+        }
+    }
+}
+
+impl From<SymbolCodeError> for Refusal {
+    ghost from_gives = { λ error r. r ≡ symbol_refusal error };
+
+    fn from(error: SymbolCodeError) -> Refusal {
+        match error {
             SymbolCodeError::OutOfCompressedData => Refusal::Dry,
             SymbolCodeError::InvalidCodeword => Refusal::Garbled,
         }
     }
+}
 
-    // As the error of a codebook, over a source.
-    pub fn into_coder_error(self) -> CoderError<SymbolCodeError, ReadFault>
-        ensures { result ≡ Frontend self }
-    {
-        CoderError::Frontend(self)
-    }
+// One `From` for each error: a general one, over every type, would overlap itself where both types are the same.
+impl From<DefaultEncoderFrontendError> for EncodeError {
+    ghost from_gives = { λ error r. r ≡ Frontend error };
 
-    // What it is shown as.
-    fn text(self) -> &'static str
-        ensures { result.now ≡ symbol_text self }
-    {
-        match self {
-            SymbolCodeError::OutOfCompressedData => {
-                "The compressed data ended before the current codeword was complete."
-            }
-            SymbolCodeError::InvalidCodeword => "Invalid codeword for this codebook.",
-        }
+    fn from(error: DefaultEncoderFrontendError) -> EncodeError {
+        CoderError::Frontend(error)
     }
 }
 
-impl From<BoundedWriteError> for CoderError<DefaultEncoderFrontendError, BoundedWriteError> {
+impl From<BoundedWriteError> for EncodeError {
     ghost from_gives = { λ error r. r ≡ Backend error };
 
-    fn from(
-        error: BoundedWriteError,
-    ) -> CoderError<DefaultEncoderFrontendError, BoundedWriteError> {
+    fn from(error: BoundedWriteError) -> EncodeError {
         CoderError::Backend(error)
     }
 }
 
-impl From<ReadFault> for CoderError<SymbolCodeError, ReadFault> {
+impl From<SymbolCodeError> for DecodeError {
+    ghost from_gives = { λ error r. r ≡ Frontend error };
+
+    fn from(error: SymbolCodeError) -> DecodeError {
+        CoderError::Frontend(error)
+    }
+}
+
+impl From<ReadFault> for DecodeError {
     ghost from_gives = { λ fault r. r ≡ Backend fault };
 
-    fn from(fault: ReadFault) -> CoderError<SymbolCodeError, ReadFault> {
+    fn from(fault: ReadFault) -> DecodeError {
         CoderError::Backend(fault)
     }
 }
@@ -107,7 +105,11 @@ impl fmt::Display for DefaultEncoderFrontendError {
     ghost output = { λ e. Some (encoder_text e) };
 
     fn fmt<W: fmt::Write>(&self, f: &mut fmt::Formatter<W>) -> fmt::Result {
-        f.write_str(self.text())
+        match self {
+            DefaultEncoderFrontendError::ImpossibleSymbol => {
+                f.write_str("Tried to encode a symbol that has no codeword.")
+            }
+        }
     }
 }
 
@@ -115,7 +117,12 @@ impl fmt::Display for SymbolCodeError {
     ghost output = { λ e. Some (symbol_text e) };
 
     fn fmt<W: fmt::Write>(&self, f: &mut fmt::Formatter<W>) -> fmt::Result {
-        f.write_str(self.text())
+        match self {
+            SymbolCodeError::OutOfCompressedData => {
+                f.write_str("The compressed data ended before the current codeword was complete.")
+            }
+            SymbolCodeError::InvalidCodeword => f.write_str("Invalid codeword for this codebook."),
+        }
     }
 }
 

@@ -1,13 +1,13 @@
 // A plain scratch of 256 bits.
-ghost use Rattle.std.specs.Prelude.{◌≡◌, ◌≤◌, length};
+ghost use Rattle.std.specs.Prelude.{◌≤◌, length};
 
 mod calls;
 
-// The first `len` bits are taken, oldest first.
+use arrayvec::ArrayVec;
+
+// The bits that were taken, oldest first.
 #[derive(Drop)]
 pub struct Scratch {
-    bits: [bool; 256],
-    len: usize,
-    ghost size: { length bits ≡ 256 },
-    ghost within: { len ≤ 256 },
+    bits: ArrayVec<bool, 256>,
+    ghost within: { length bits.items ≤ 256 },
 }

@@ -9,6 +9,7 @@ ghost use Rattle.codebooks.specs.Sent.{Sent};
 ghost use Rattle.codebooks.specs.Streams.{ManyRead, OneRead, handed};
 ghost use Rattle.codebooks.specs.Told.{told_bits};
 
+use super::each::{emit_each, read_each, read_to_one};
 use backends::fault::ReadFault;
 use words::fault::BoundedWriteError;
 
@@ -39,7 +40,10 @@ pub trait BitSink {
 pub trait BitsSink: BitSink {
     // The lowest `count` bits of a number, at most 64, lowest first, as by single calls up to the first that is refused.
     fn emit_bits(&mut self, number: u64, count: u32) -> Result<(), BoundedWriteError>
-        ensures { Sent Self.BitSink.held Self.BitSink.emits (handed number count) self.old (told_write result) self.new };
+        ensures { Sent Self.BitSink.held Self.BitSink.emits (handed number count) self.old (told_write result) self.new }
+    {
+        emit_each(self, number, count)
+    }
 }
 
 // Gives bits.
@@ -56,16 +60,22 @@ pub trait BitSource {
         ensures does { reads self.old (told_read result) self.new };
 }
 
-// Gives several bits at once, as by single calls.
+// Gives several bits at once, as by single calls. (Each call says what was reached: that is of a source before and after.)
 pub trait BitsSource: BitSource {
     // The next `count` bits, at most 64, as a number, the first bit the highest; fewer at the end.
     fn next_bits(&mut self, count: u32) -> Result<BitsRead, ReadFault>
         ensures means { ManyRead (min count 64) (Self.BitSource.coming self.old) (told_bits result) (Self.BitSource.coming self.new) }
-        ensures does { Reached Self.BitSource.reads self.old self.new };
+        ensures does { Reached Self.BitSource.reads self.old self.new }
+    {
+        read_each(self, count)
+    }
 
     // Zero bits up to the first one bit, which is taken too: how many there were, staying at the largest number; none where the end comes
     // first.
     fn next_one(&mut self) -> Result<Option<u64>, ReadFault>
         ensures means { OneRead (Self.BitSource.coming self.old) (told_read result) (Self.BitSource.coming self.new) }
-        ensures does { Reached Self.BitSource.reads self.old self.new };
+        ensures does { Reached Self.BitSource.reads self.old self.new }
+    {
+        read_to_one(self)
+    }
 }

@@ -1,3 +1,4 @@
 mod Handing
 mod Parsing
+mod Reversing
 mod Symbols

@@ -8,22 +8,17 @@ use Rattle.model.specs.Cells.{Cell, ahead, bad, beyond, bit, bits}
 use Rattle.model.specs.Codebooks.{Decoded, garbled, ran_out, refused, short, symbol}
 use Rattle.model.specs.Golomb.{parse}
 use Rattle.model.specs.Refusals.{Answer}
-use Rattle.model.proofs.CellLists.{ahead-bits}
+use Rattle.model.proofs.CellLists.{ahead-bits, bits-append, drop_bits}
 use Rattle.model.proofs.Codes.{parse_none, parse-one, rest_many, rest_past, rest-short, rest_symbol}
 use Rattle.model.proofs.Numbers.{value_lt}
 use Rattle.backends.specs.declared.fault.ReadFault.{ReadFault}
 use Rattle.backends.specs.Answers.{read_refusal, told_read}
 use Rattle.codebooks.specs.Streams.{ManyRead, Number, OneRead}
-use Rattle.codebooks.proofs.Sinking.{bits-append}
 use Rattle.exp_golomb.specs.Parsed.{FirstOne, MoreBits, Short}
 
 beyond-bits : (v : List Bool) (cs : List Cell) → beyond (bits v ++ cs) ≡ beyond cs
 beyond-bits [] cs = refl
 beyond-bits (b ∷ v) cs = beyond-bits v cs
-
-drop_bits : (v : List Bool) (cs : List Cell) → drop (length v) (bits v ++ cs) ≡ cs
-drop_bits [] cs = refl
-drop_bits (b ∷ v) cs = drop_bits v cs
 
 module _ (B : ℕ) (cs cs' : List Cell) where
   -- by the outcome

@@ -1,18 +1,18 @@
 -- Lemmas: the laws of a codebook, for the Exp-Golomb code at any word type.
-use Rattle.std.proofs.Common.{◌≡◌, ℕ, ◌≤◌, Bool, List, length, Option, sym, ap, ◌∙◌, arith}
+use Rattle.std.proofs.Common.{◌≡◌, ℕ, ◌≤◌, Bool, List, length, Option, sym, ap, ◌∙◌}
 use Rattle.model.specs.Codebooks.{Finds, Found, Lengths, Outcome, Part, PrefixFree, Unread, on_symbol, refused, short, symbol}
 use Rattle.model.specs.Golomb.{code_at, parse}
 use Rattle.model.proofs.Clause.{apart_from_finds, parsing}
 
 symbol_of : {S T : Type 0} (f : S → T) (o : Outcome S) (t : T) (n : ℕ) → on_symbol f o ≡ symbol t n → (s : S) × (o ≡ symbol s n) × (f s ≡ t)
 symbol_of f (symbol s m) t n e = let i : m ≡ n = cc in (s, ap (symbol s) i, cc)
-symbol_of f (refused why m) t n e = let no : ◌≡◌ {A = ℕ} 0 1 = cc in absurd (omega arith)
-symbol_of f (short why) t n e = let no : ◌≡◌ {A = ℕ} 0 1 = cc in absurd (omega arith)
+symbol_of f (refused why m) t n e = absurd cc
+symbol_of f (short why) t n e = absurd cc
 
 refused_of : {S T : Type 0} (f : S → T) (o : Outcome S) (why : Unread) (n : ℕ) → on_symbol f o ≡ refused why n → o ≡ refused why n
-refused_of f (symbol s m) why n e = let no : ◌≡◌ {A = ℕ} 0 1 = cc in absurd (omega arith)
+refused_of f (symbol s m) why n e = absurd cc
 refused_of f (refused w m) why n e = let i : m ≡ n = cc in let j : w ≡ why = cc in cc
-refused_of f (short w) why n e = let no : ◌≡◌ {A = ℕ} 0 1 = cc in absurd (omega arith)
+refused_of f (short w) why n e = absurd cc
 
 module _ {E N : Type 0} (B : ℕ) (number : N → ℕ) (word : ℕ → N) where
   abbrev code : E → N → Option (List Bool)

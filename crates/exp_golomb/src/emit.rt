@@ -1,5 +1,5 @@
-// The codeword of a number, handed to a bit sink in either direction.
-ghost use Rattle.std.specs.Prelude.{◌≡◌, ◌+◌, ◌^◌, ◌<◌, ◌≤◌, Bool, true, List, [], ◌∷◌, ◌++◌, Some, Option};
+// The codeword of a number, handed to a bit sink in either direction. (Symbol and sink, as the calls of the trait have them.)
+ghost use Rattle.std.specs.Prelude.{◌≡◌, ℕ, ◌^◌, ◌<◌, ◌≤◌, Bool, true, List, [], ◌∷◌, ◌++◌, Some, Option};
 ghost use Rattle.model.specs.Bits.{in_bits, low_bits};
 ghost use Rattle.model.specs.Golomb.{code_at};
 ghost use Rattle.model.specs.Sinks.{reversed};
@@ -18,8 +18,8 @@ pub(crate) fn emit_codeword<N: Word, K: BitsSink>(
 ) -> Result<(), BoundedWriteError>
     ensures { Coded K.BitSink.held K.BitSink.emits (code_at N.Partial.PartialWord.width (N.Word.number symbol)) sink.old (told_write result) sink.new }
 {
-    let parts = parts_of(symbol);
-    emit_around_one(sink, 0, parts.turned, parts.zeros)
+    let parts = Parts::of(symbol);
+    emit_around_one(sink, 0, parts.turned(), parts.zeros)
 }
 
 // The same, last bit first.
@@ -29,64 +29,40 @@ pub(crate) fn emit_reversed<N: Word, K: BitsSink>(
 ) -> Result<(), BoundedWriteError>
     ensures { Coded K.BitSink.held K.BitSink.emits (reversed (code_at N.Partial.PartialWord.width (N.Word.number symbol))) sink.old (told_write result) sink.new }
 {
-    let parts = parts_of(symbol);
+    let parts = Parts::of(symbol);
     emit_around_one(sink, parts.low, 0, parts.zeros)
 }
 
-// A codeword: how many zeros it begins with, and the bits after its one bit, as a number and in the other order.
+// A codeword: how many zeros it begins with, and as many bits after its one bit, as a number.
 #[derive(Clone, Copy)]
 struct Parts {
     zeros: u32,
     low: u64,
-    turned: u64,
+    ghost few: { zeros ≤ 64 },
+    ghost within: { low < 2 ^ zeros },
 }
 
-fn parts_of<N: Word>(symbol: N) -> Parts
-    ensures first { code_at N.Partial.PartialWord.width (N.Word.number symbol) ≡ Some (handed 0 result.zeros ++ ((true ∷ []) ++ handed result.turned result.zeros)) }
-    ensures last { reversed (code_at N.Partial.PartialWord.width (N.Word.number symbol)) ≡ Some (handed result.low result.zeros ++ ((true ∷ []) ++ handed 0 result.zeros)) }
-{
-    let split = split_of(symbol.to_u64());
-    Parts {
-        zeros: split.zeros,
-        low: split.low,
-        turned: turned(split.low, split.zeros),
+impl Parts {
+    // The codeword of a number: the number and one more are a power of two and what is left.
+    fn of<N: Word>(symbol: N) -> Parts
+        ensures first { (turned : ℕ) → low_bits result.zeros turned ≡ in_bits result.zeros result.low → code_at N.Partial.PartialWord.width (N.Word.number symbol) ≡ Some (handed 0 result.zeros ++ ((true ∷ []) ++ handed turned result.zeros)) }
+        ensures last { reversed (code_at N.Partial.PartialWord.width (N.Word.number symbol)) ≡ Some (handed result.low result.zeros ++ ((true ∷ []) ++ handed 0 result.zeros)) }
+    {
+        let Some(sum) = symbol.to_u64().checked_add(1) else {
+            return Parts { zeros: 64, low: 0 };
+        };
+        let zeros = sum.ilog2();
+        let low = sum - (1 << zeros);
+        Parts { zeros, low }
     }
-}
 
-// A number and one more, as a power of two and what is left.
-#[derive(Clone, Copy)]
-struct Split {
-    zeros: u32,
-    low: u64,
-}
-
-fn split_of(n: u64) -> Split
-    ensures sum { n + 1 ≡ 2 ^ result.zeros + result.low }
-    ensures low { result.low < 2 ^ result.zeros }
-    ensures few { result.zeros ≤ 64 }
-{
-    let mut zeros: u32 = 0;
-    let mut ones: u64 = 0;
-    while ones < n - ones {
-        ones = ones + ones + 1;
-        zeros += 1;
+    // The bits after the one bit, in the other order. (Where there are none the shift is by 64, and any number serves.)
+    fn turned(self) -> u64
+        ensures { low_bits self.zeros result ≡ in_bits self.zeros self.low }
+    {
+        let turned = self.low.reverse_bits();
+        turned.checked_shr(64 - self.zeros).unwrap_or(0)
     }
-    Split {
-        zeros,
-        low: n - ones,
-    }
-}
-
-// The lowest `count` bits of a number, in the other order.
-fn turned(n: u64, count: u32) -> u64
-    requires { count ≤ 64 }
-    ensures { low_bits count result ≡ in_bits count n }
-{
-    let mut out: u64 = 0;
-    for i in 0..count {
-        out = 2 * out + (n >> i) % 2;
-    }
-    out
 }
 
 // A one bit between `count` bits of two numbers, each lowest first: a codeword, if these are its bits.
@@ -98,13 +74,7 @@ fn emit_around_one<K: BitsSink>(
 ) -> Result<(), BoundedWriteError>
     ensures { (code : Option (List Bool)) → code ≡ Some (handed first count ++ ((true ∷ []) ++ handed last count)) → Coded K.BitSink.held K.BitSink.emits code sink.old (told_write result) sink.new }
 {
-    match sink.emit_bits(first, count) {
-        Ok(()) => {}
-        Err(full) => return Err(full),
-    }
-    match sink.emit(true) {
-        Ok(()) => {}
-        Err(full) => return Err(full),
-    }
+    sink.emit_bits(first, count)?;
+    sink.emit(true)?;
     sink.emit_bits(last, count)
 }

@@ -5,12 +5,10 @@ ghost use Rattle.model.specs.Codebooks.{on_symbol};
 ghost use Rattle.model.specs.Golomb.{Clause_9_1, ParsingReadsCodewords, code_at, parse};
 ghost use Rattle.exp_golomb.specs.GolombLaws as laws;
 
-use backends::fault::ReadFault;
 use codebooks::book::{Codebook, DecoderCodebook, EncoderCodebook, PrefixCode};
-use codebooks::fault::{CoderError, DefaultEncoderFrontendError, SymbolCodeError};
+use codebooks::fault::{DecodeError, EncodeError, SymbolCodeError};
 use codebooks::streams::{BitsSink, BitsSource};
 use std::marker::PhantomData;
-use words::fault::BoundedWriteError;
 use words::{PartialWord, Word};
 
 mod emit;
@@ -58,7 +56,7 @@ impl<N: Word> EncoderCodebook for ExpGolomb<N> {
         &self,
         symbol: N,
         sink: &mut K,
-    ) -> Result<(), CoderError<DefaultEncoderFrontendError, BoundedWriteError>> {
+    ) -> Result<(), EncodeError> {
         emit_codeword(symbol, sink)?;
         Ok(())
     }
@@ -67,24 +65,16 @@ impl<N: Word> EncoderCodebook for ExpGolomb<N> {
         &self,
         symbol: N,
         sink: &mut K,
-    ) -> Result<(), CoderError<DefaultEncoderFrontendError, BoundedWriteError>> {
+    ) -> Result<(), EncodeError> {
         emit_reversed(symbol, sink)?;
         Ok(())
     }
 }
 
 impl<N: Word> DecoderCodebook for ExpGolomb<N> {
-    fn decode_symbol<R: BitsSource>(
-        &self,
-        source: &mut R,
-    ) -> Result<N, CoderError<SymbolCodeError, ReadFault>> {
-        let number = match parse_number(source, N::width()) {
-            Ok(number) => number,
-            Err(error) => return Err(error),
-        };
-        match N::from_u64(number) {
-            Some(symbol) => Ok(symbol),
-            None => Err(SymbolCodeError::InvalidCodeword.into_coder_error()),
-        }
+    fn decode_symbol<R: BitsSource>(&self, source: &mut R) -> Result<N, DecodeError> {
+        let number = parse_number(source, N::width())?;
+        let symbol = N::from_u64(number).ok_or(SymbolCodeError::InvalidCodeword)?;
+        Ok(symbol)
     }
 }

@@ -8,46 +8,28 @@ ghost use Rattle.codebooks.specs.Told.{told_bits};
 ghost use Rattle.exp_golomb.specs.Parsed.{FirstOne, MoreBits, NumberOf, Parsed, ParsedAs, Short, ZerosThenOne};
 
 use backends::fault::ReadFault;
-use codebooks::fault::{CoderError, SymbolCodeError};
+use codebooks::fault::{DecodeError, SymbolCodeError};
 use codebooks::streams::{BitSource, BitsRead, BitsSource};
 
 // Parses the codeword of a number of `width` bits: the zeros up to the first one bit, then as many bits again.
-pub(crate) fn parse_number<R: BitsSource>(
-    source: &mut R,
-    width: u32,
-) -> Result<u64, CoderError<SymbolCodeError, ReadFault>>
+pub(crate) fn parse_number<R: BitsSource>(source: &mut R, width: u32) -> Result<u64, DecodeError>
     requires { width ≤ 64 }
     ensures { Parsed R.BitSource.coming R.BitSource.reads width source.old (told_decode result) source.new }
 {
-    match first_one(source)? {
-        Some(zeros) if zeros <= u64::from(width) => parse_rest(source, zeros as u32, width),
-        Some(_) => Err(SymbolCodeError::InvalidCodeword.into_coder_error()),
-        None => Err(SymbolCodeError::InvalidCodeword.into_coder_error()),
+    let zeros = first_one(source)?.ok_or(SymbolCodeError::InvalidCodeword)?;
+    if zeros > u64::from(width) {
+        return Err(SymbolCodeError::InvalidCodeword.into());
     }
-}
-
-// The rest of it, after so many zeros and the one bit.
-fn parse_rest<R: BitsSource>(
-    source: &mut R,
-    zeros: u32,
-    width: u32,
-) -> Result<u64, CoderError<SymbolCodeError, ReadFault>>
-    requires zeros_le_width { zeros ≤ width }
-    requires width_bound { width ≤ 64 }
-    ensures means { (cs : List Cell) → ZerosThenOne zeros cs (R.BitSource.coming source.old) → ParsedAs width cs (told_decode result) (R.BitSource.coming source.new) }
-    ensures does { (s : R) → Reached R.BitSource.reads s source.old → Reached R.BitSource.reads s source.new }
-{
+    let zeros = zeros as u32;
     let read = more_bits(source, zeros)?;
     if read.count < zeros {
-        return Err(SymbolCodeError::InvalidCodeword.into_coder_error());
+        return Err(SymbolCodeError::InvalidCodeword.into());
     }
-    let Some(number) = number_of(zeros, read.number, width) else {
-        return Err(SymbolCodeError::InvalidCodeword.into_coder_error());
-    };
+    let number = number_of(zeros, read.number, width).ok_or(SymbolCodeError::InvalidCodeword)?;
     Ok(number)
 }
 
-// Zero bits and the first one bit.
+// Zero bits and the first one bit. (Apart, as `more_bits` is: the clause says it in the words of the parser.)
 fn first_one<R: BitsSource>(source: &mut R) -> Result<Option<u64>, ReadFault>
     ensures means { FirstOne (R.BitSource.coming source.old) (told_read result) (R.BitSource.coming source.new) }
     ensures does { Reached R.BitSource.reads source.old source.new }
@@ -73,12 +55,12 @@ fn number_of(zeros: u32, low: u64, width: u32) -> Option<u64>
     ensures { NumberOf width zeros low result }
 {
     if zeros < width {
-        return Some(low_ones(zeros) + low);
+        Some(low_ones(zeros) + low)
+    } else if low == 0 {
+        Some(low_ones(zeros))
+    } else {
+        None
     }
-    if low > 0 {
-        return None;
-    }
-    Some(low_ones(zeros))
 }
 
 // The number whose lowest `count` bits are ones.

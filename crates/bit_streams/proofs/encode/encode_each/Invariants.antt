@@ -1,6 +1,11 @@
-use Rattle.bit_streams.specs.Several.{code_of}
-use Rattle.bit_streams.proofs.Chained.{FromStart}
+use Rattle.std.proofs.Common.{Bool, List, Option}
+use Rattle.bit_streams.specs.Several.{Gives, code_of_lent}
+use Rattle.bit_streams.proofs.Chained.{Onward}
 use Rattle.bit_streams.proofs.encode.encode_each.Given as goal
 
-abbrev pub invariant-loop-i : goal.invariant-loop-i
-invariant-loop-i g l = FromStart g.K.WriteBitStream.encodes (code_of g.C.Codebook.code) l.initial.stream l.symbols l.i l.stream
+abbrev pub invariant-loop-symbol : goal.invariant-loop-symbol
+invariant-loop-symbol g l =
+    let it = goal.iterator-loop-symbol g in
+    let code = code_of_lent g.C.Codebook.code in
+    it.can_next l.symbol-iterator × it.is_finite l.symbol-iterator
+    × ((codes : List (Option (List Bool))) → Gives it.next_gives code l.initial.symbol-iterator codes → Onward g.K.WriteBitStream.encodes it.next_gives code l.initial.stream codes l.symbol-iterator l.stream)
