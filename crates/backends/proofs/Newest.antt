@@ -4,19 +4,17 @@ use mathlib.Core.List.{reverse-cons, reverse-reverse}
 use Rattle.model.specs.Cells.{Place, word, fault}
 use Rattle.model.specs.Refusals.{Answer}
 use Rattle.model.specs.Stores.{SourceRead, StackRead}
+use Rattle.model.proofs.OneAnswer.{reverse-same}
 use Rattle.backends.specs.Chains.{Taken}
 
 turned_back : {A : Type 0} (xs ys : List A) (x : A) → reverse xs ≡ x ∷ ys → xs ≡ reverse ys ++ (x ∷ [])
 turned_back xs ys x e = sym (reverse-reverse xs) ∙ ap reverse e ∙ reverse-cons x ys
 
-same-turned : {A : Type 0} (xs ys : List A) → reverse xs ≡ reverse ys → xs ≡ ys
-same-turned xs ys e = sym (reverse-reverse xs) ∙ ap reverse e ∙ reverse-reverse ys
-
 -- what is read of the places, newest first, is a read of the stack
 pub stack_read : (ps ps' : List Place) (a : Answer (Option ℕ)) → SourceRead (reverse ps) a (reverse ps') → StackRead ps a ps'
 stack_read ps ps' (Ok (Some n)) e = turned_back ps (reverse ps') (word n) e ∙ ap (λ t. t ++ (word n ∷ [])) (reverse-reverse ps')
-stack_read ps ps' (Ok None) (e, h) = (same-turned ps [] e, same-turned ps' [] h)
-stack_read ps ps' (Err w) (k, rest, e, h, s) = (k, reverse rest, turned_back ps rest (fault k) e, h, same-turned ps' ps s)
+stack_read ps ps' (Ok None) (e, h) = (reverse-same ps [] e, reverse-same ps' [] h)
+stack_read ps ps' (Err w) (k, rest, e, h, s) = (k, reverse rest, turned_back ps rest (fault k) e, h, reverse-same ps' ps s)
 
 -- the same, where the places to come are told apart
 pub read_of : (ps ps' cs cs' : List Place) (a : Answer (Option ℕ)) → cs ≡ reverse ps → cs' ≡ reverse ps' → SourceRead cs a cs' → StackRead ps a ps'

@@ -1,10 +1,19 @@
 -- Lemmas: the places of a slice before and after a position, one more or one less.
-use Rattle.std.specs.Prelude.{◌≡◌, ℕ, ◌+◌, ◌-◌, ◌^◌, ◌<◌, ◌≤◌, List, [], ◌∷◌, ◌++◌, map, reverse, length, take, drop, ◌≢◌, slice_index_or}
+use Rattle.std.specs.Prelude.{◌≡◌, ℕ, ◌+◌, ◌-◌, ◌^◌, ◌<◌, ◌≤◌, List, [], ◌∷◌, ◌++◌, map, reverse, length, take, drop, ◌≢◌, slice_index_or, refl}
 use Rattle.std.proofs.Common.{sym, ap, ap₂, ◌∙◌, arith, length-drop}
-use mathlib.Core.List.{reverse-append}
+use mathlib.Core.List.{reverse-append, reverse-cons}
 use Rattle.std.proofs.lemmas.List.{take_more, map-append, length-take-le, drop_more, get_or-take, length-map, nil_from_length}
 use Rattle.model.specs.Cells.{Place}
 use Rattle.backends.specs.Slices.{spread, before, front, rest}
+
+-- what is made of a list that is turned
+pub map-reverse : {A B : Type 0} (f : A → B) (xs : List A) → map f (reverse xs) ≡ reverse (map f xs)
+map-reverse f [] = refl
+map-reverse f (x ∷ xs) =
+    ap (map f) (reverse-cons x xs)
+    ∙ map-append f (reverse xs) (x ∷ [])
+    ∙ ap (λ t. t ++ (f x ∷ [])) (map-reverse f xs)
+    ∙ sym (reverse-cons (f x) (map f xs))
 
 module _ {A : Type 0} (place : A → Place) (xs : List A) (pos n : ℕ) (is : n ≡ before xs pos) where
   pub within : n ≤ spread xs

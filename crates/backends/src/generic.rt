@@ -1,4 +1,5 @@
-// Calls over any store. (Each says that the capacity stays, since that is of a store before and after, and no invariant of one value.)
+// Calls over any store. (Each that writes or takes says that the capacity stays: that is of a store before and after, and no invariant of
+// one value.)
 ghost use Rattle.std.specs.Prelude.{◌≡◌, map, length, ◌==◌};
 ghost use Rattle.model.specs.Stores.{valued};
 ghost use Rattle.backends.specs.Answers.{told_read, told_write};
@@ -38,7 +39,7 @@ pub fn extend_from_iter<W: Word, B: WordSink<W>>(
     write_all(store, words)
 }
 
-// The loop of it. (Apart: both clauses need answers, and an edit of the public call is to be refused at its clause, not at an answer.)
+// The loop of it. (Apart: `calls` and `places` need answers, and an edit of the public call is to be refused at its clause.)
 fn write_all<W: Word, B: WordSink<W>>(store: &mut B, words: &[W]) -> Result<(), BoundedWriteError>
     ensures calls { WroteAll B.WriteWords.writes store.old words.now (told_write result) store.new }
     ensures places { Extended (B.WriteWords.capacity store.old) (B.WriteWords.places store.old) (map (word_at W.Word.value) words.now) (told_write result) (B.WriteWords.places store.new) }

@@ -1,9 +1,7 @@
 -- What a slice's iterators give once a closure is put over them.
-use Rattle.std.proofs.Common.{◌≡◌, List, [], ◌∷◌, ◌++◌, map, reverse, refl, sym, subst, ap, ◌∙◌, Iter}
-use mathlib.Core.List.{reverse-cons}
+use Rattle.std.proofs.Common.{◌≡◌, List, map, reverse, refl, subst, Iter}
 use denote.Param.Members.{Called, Mut}
 use denote.Ref.{Bor}
-use Rattle.std.proofs.lemmas.List.{map-append}
 use Rattle.std.proofs.lemmas.Iterator.{YieldsList-from_map_by, YieldsList-from_slice}
 use Rattle.std.proofs.lemmas.Iterator.Adapters.{YieldsList-from_rev_slice}
 use Rattle.std.specs.declared.iter.Map.{Map}
@@ -11,11 +9,8 @@ use Rattle.std.specs.declared.iter.Rev.{Rev}
 use Rattle.std.specs.Iterator.{AlwaysYields}
 use Rattle.std.specs.Iterator.Adapters.{map_callee, map_source, map_steps, rev_source, rev_steps}
 use Rattle.std.specs.Slice.Iter.{iter_rest, iter_steps, iter_steps_back}
+use Rattle.backends.specs.Fronts.{map-reverse}
 use Rattle.bit_streams.specs.Several.{Gives}
-
-map-reverse : {X Y : Type 0} (f : X → Y) (xs : List X) → map f (reverse xs) ≡ reverse (map f xs)
-map-reverse f [] = refl
-map-reverse f (x ∷ xs) = ap (map f) (reverse-cons x xs) ∙ map-append f (reverse xs) (x ∷ []) ∙ ap (λ ys. ys ++ (f x ∷ [])) (map-reverse f xs) ∙ sym (reverse-cons (f x) (map f xs))
 
 -- each call of the closure leaves it as it was, and `view` reads of its answer what f makes of the element
 abbrev pub Shows : {X Y W F : Type 0} → (X → Y) → Mut F (Bor X × Unit {0}) W → (W → Y) → F → Type 0

@@ -68,7 +68,7 @@ impl From<SymbolCodeError> for Refusal {
     }
 }
 
-// One `From` for each error: a general one, over every type, would overlap itself where both types are the same.
+// One `From` for each error, in place of constriction's general one: what an error becomes is told at its type (docs/DIFFERENCES.md).
 impl From<DefaultEncoderFrontendError> for EncodeError {
     ghost from_gives = { λ error r. r ≡ Frontend error };
 

@@ -1,8 +1,8 @@
 -- The places of a slice that is filled from its end down, and of a slice that is turned.
-use Rattle.std.proofs.Common.{◌≡◌, ℕ, ◌+◌, ◌-◌, ◌^◌, ◌≤◌, min, List, [], ◌∷◌, ◌++◌, map, reverse, length, take, drop, set, Ok, Err, sym, refl, ap, ◌∙◌, ap₂, arith, length-drop, length-set, take-append-drop, take_all, take_at, drop_at}
+use Rattle.std.proofs.Common.{◌≡◌, ℕ, ◌+◌, ◌-◌, ◌^◌, ◌≤◌, min, List, ◌∷◌, ◌++◌, map, reverse, length, take, drop, set, Ok, Err, sym, refl, ap, ◌∙◌, ap₂, arith, length-drop, length-set, take-append-drop, take_all, take_at, drop_at}
 use mathlib.Core.List.{reverse-append, reverse-cons, reverse-reverse}
 use lib.Seq.{take-set-lt}
-use Rattle.std.proofs.lemmas.List.{drop-set, length-reverse, length-take-le, map-append}
+use Rattle.std.proofs.lemmas.List.{drop-set, length-reverse, length-take-le}
 use Rattle.model.specs.Cells.{Place}
 use Rattle.model.specs.Refusals.{Answer}
 use Rattle.model.specs.Stores.{StackWritten}
@@ -10,15 +10,7 @@ use Rattle.cursors.specs.declared.cursor.Cursor.{Cursor}
 use Rattle.cursors.specs.Cursors.{at, queued, room_of}
 use Rattle.cursors.specs.Reversed.{PutBelow}
 use Rattle.backends.specs.Slices.{spread, before, front, rest, word_at}
-use Rattle.backends.specs.Fronts.{how_many_left}
-
-map-reverse : {A B : Type 0} (f : A → B) (xs : List A) → map f (reverse xs) ≡ reverse (map f xs)
-map-reverse f [] = refl
-map-reverse f (x ∷ xs) =
-    ap (map f) (reverse-cons x xs)
-    ∙ map-append f (reverse xs) (x ∷ [])
-    ∙ ap (λ t. t ++ (f x ∷ [])) (map-reverse f xs)
-    ∙ sym (reverse-cons (f x) (map f xs))
+use Rattle.backends.specs.Fronts.{how_many_left, map-reverse}
 
 turned-spread : {A : Type 0} (xs : List A) → spread (reverse xs) ≡ spread xs
 turned-spread xs = ap (λ k. min (2 ^ 56) k) (length-reverse xs)

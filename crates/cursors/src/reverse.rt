@@ -111,8 +111,8 @@ impl<'a, W: Word> Cursor<'a, W> {
         Cursor { buf, pos }
     }
 
-    // Puts a word into the slot below the position and moves there; refused without effect at the beginning. (Apart: with this body in
-    // `write` its `means` did not close.)
+    // Puts a word into the slot below the position and moves there; refused without effect at the beginning. (Apart: `means`
+    // of `write` needs an answer, and an edit of this body is to be refused at its own clause.)
     fn put_below(&mut self, word: W) -> Result<(), BoundedWriteError>
         ensures { PutBelow self.old word (told_write result) self.new }
     {

@@ -60,7 +60,8 @@ impl<B: Bytes> ByteRecords<B> {
         self.pos.min(self.room())
     }
 
-    // The word of a record that there is, or the fault that it is.
+    // The word of a record that there is, or the fault that it is. (Apart: where a call changes the store, only the length of bytes that are
+    // handed on stays known.)
     fn word(&self, at: usize) -> Result<u32, ReadFault>
         requires { 5 * at + 5 ≤ length (B.items self.now.bytes) }
         ensures { RecordRead (place_at (B.items self.now.bytes) at) result }

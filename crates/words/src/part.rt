@@ -82,6 +82,7 @@ impl<U: Unsigned> PartialWord for Partial<U> {
     }
 }
 
+// Apart from the calls of the traits: these clauses need answers, and an edit of a call is to be refused at its own clause.
 impl<U: Unsigned> Partial<U> {
     // The one of these numbers, with the newest bit at the mask.
     fn at(mask: u64, word: u64) -> Partial<U>
