@@ -73,7 +73,7 @@ impl<'a, W: Word> WriteWords<W> for Cursor<'a, W> {
     // Puts the word into the slot at the position and moves on.
     fn write(&mut self, word: W) -> Result<(), BoundedWriteError> {
         let at = self.place();
-        if at == self.room() {
+        if at >= self.room() {
             return Err(BoundedWriteError::OutOfSpace);
         }
         self.buf[at] = word;
@@ -105,7 +105,7 @@ impl<'a, W: Word> ReadWords<W, Queue> for Cursor<'a, W> {
     // The word at the position, past which it moves.
     fn read(&mut self) -> Result<Option<W>, ReadFault> {
         let at = self.place();
-        if at == self.room() {
+        if at >= self.room() {
             return Ok(None);
         }
         self.pos = at + 1;

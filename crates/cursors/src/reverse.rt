@@ -9,7 +9,7 @@ ghost use Rattle.cursors.specs.Reversed.{PutBelow, SameStore, Turned, TurnedWrot
 use super::cursor::Cursor;
 use backends::fault::{ReadFault, SeekError};
 use backends::traits::{
-    BoundedReadWords, BoundedWriteWords, Pos, ReadWords, Reversible, Seek, WordSink, WordSource,
+    BoundedReadWords, BoundedWriteWords, Pos, Queue, ReadWords, Seek, Stack, WordSink, WordSource,
     WordStack, WriteWords,
 };
 use words::Word;
@@ -19,24 +19,57 @@ use words::fault::BoundedWriteError;
 #[derive(Drop)]
 pub struct Reverse<B>(pub B);
 
-impl<W: Word, S: Reversible, B: ReadWords<W, S::Reversed>> ReadWords<W, S> for Reverse<B> {
+// A block for each order, and not one over both (`Reversible`): so a call over a store with one of the two reading names need not say which, since
+// just one block serves it.
+impl<W: Word, B: ReadWords<W, Stack>> ReadWords<W, Queue> for Reverse<B> {
     ghost coming = { λ s. B.ReadWords.coming s.0 };
 
     ghost reads = { λ s r t. B.ReadWords.reads s.0 r t.0 };
 
     fn read(&mut self) -> Result<Option<W>, ReadFault> {
-        self.0.read()
+        <B as ReadWords<W, Stack>>::read(&mut self.0)
     }
 }
 
-impl<W: Word, S: Reversible, B: BoundedReadWords<W, S::Reversed>> BoundedReadWords<W, S>
-    for Reverse<B> {
+impl<W: Word, B: ReadWords<W, Queue>> ReadWords<W, Stack> for Reverse<B> {
+    ghost coming = { λ s. B.ReadWords.coming s.0 };
+
+    ghost reads = { λ s r t. B.ReadWords.reads s.0 r t.0 };
+
+    fn read(&mut self) -> Result<Option<W>, ReadFault> {
+        <B as ReadWords<W, Queue>>::read(&mut self.0)
+    }
+}
+
+impl<W: Word, B> BoundedReadWords<W, Queue> for Reverse<B>
+where
+    B: BoundedReadWords<W, Stack>,
+{
     fn remaining(&self) -> usize {
-        self.0.remaining()
+        <B as BoundedReadWords<W, Stack>>::remaining(&self.0)
     }
 }
 
-impl<W: Word, S: Reversible, B: WordSource<W, S::Reversed>> WordSource<W, S> for Reverse<B> {
+impl<W: Word, B> BoundedReadWords<W, Stack> for Reverse<B>
+where
+    B: BoundedReadWords<W, Queue>,
+{
+    fn remaining(&self) -> usize {
+        <B as BoundedReadWords<W, Queue>>::remaining(&self.0)
+    }
+}
+
+impl<W: Word, B> WordSource<W, Queue> for Reverse<B>
+where
+    B: WordSource<W, Stack>,
+{
+    ghost fits = { λ s. B.WordSource.fits s.0 };
+}
+
+impl<W: Word, B> WordSource<W, Stack> for Reverse<B>
+where
+    B: WordSource<W, Queue>,
+{
     ghost fits = { λ s. B.WordSource.fits s.0 };
 }
 

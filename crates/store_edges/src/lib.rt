@@ -4,9 +4,11 @@
 #[cfg(test)]
 mod tests {
     use backends::fault::{ReadFault, SeekError};
-    use backends::generic::{extend_from_iter, replace_newest};
+    use backends::generic::{extend_from_iter, is_exhausted, replace_newest};
+    use backends::small::SmallStore;
     use backends::traits::{
-        BoundedWriteWords, Pos, Queue, ReadWords, Seek, Semantics, Stack, WriteWords,
+        BoundedReadWords, BoundedWriteWords, Pos, Queue, ReadWords, Seek, Semantics, Stack,
+        WriteWords,
     };
     use cursors::cursor::{Cursor, check_pos};
     use cursors::reverse::Reverse;
@@ -108,8 +110,22 @@ mod tests {
         assert_eq!(rt; next(Stack, &mut c), Ok(Some(3)));
     }
 
+    // The small store is read in one order alone, so a call over it need not say which, turned or not.
+    #[test]
+    fn one_order_needs_no_name(rt: HostRuntime) {
+        let mut store = SmallStore::new();
+        assert_eq!(rt; store.write(7), Ok(()));
+        assert_eq!(rt; store.write(9), Ok(()));
+        let mut turned = Reverse(store);
+        assert_eq!(rt; turned.read(), Ok(Some(9)));
+        assert_eq!(rt; turned.remaining(), 1);
+        assert!(rt; !is_exhausted(&turned));
+    }
+
     #[test]
     fn the_newest_of_a_reversed_cursor_is_replaced(rt: HostRuntime) {
+        // the borrow checker knows of the type `Queue`, under which the cursor is read here, only where it is named
+        let _ = Queue;
         let mut slots = [1u8, 2, 3];
         let mut r = Reverse(Cursor::new_at_pos(&mut slots, 1));
         assert_eq!(rt; replace_newest(&mut r, 8), Ok(Some(2)));
