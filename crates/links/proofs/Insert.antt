@@ -3,8 +3,8 @@ use Rattle.std.proofs.Common.{◌≡◌, ℕ, zero, suc, ◌<◌, ◌≤◌, tru
 use Rattle.std.proofs.lemmas.Bool.{and_parts, and_from, cases_Bool, cond-true, cond-false}
 use Rattle.model.specs.declared.link.Link.{Link}
 use Rattle.model.specs.Links.{before, is_link, In}
-use Rattle.links.specs.Order.{before_all, ascending, proper, insert_link}
-use Rattle.links.proofs.Order.{no_link, before_irrefl, not_back, neither_same, before_all-in, before_all_over, before_all_not_in, before_all_from, proper-in, proper_from}
+use Rattle.links.specs.Order.{before_all, ascending, proper, insert_link, no_link}
+use Rattle.links.proofs.Order.{before_irrefl, not_back, neither_same, before_all-in, before_all_over, before_all_not_in, before_all_from, proper-in, proper_from}
 
 -- the three ways of an insertion into x ∷ xs
 insert_front : (l x : Link) (xs : List Link) → before l x ≡ true → insert_link l (x ∷ xs) ≡ l ∷ x ∷ xs

@@ -5,11 +5,7 @@ use Rattle.std.proofs.lemmas.Bool.{and_parts, and_from, cases_Bool, both_ways, o
 use Rattle.model.specs.declared.link.Link.{Link}
 use Rattle.model.specs.Links.{before, is_link, In}
 use Rattle.model.specs.Rows.{is_in}
-use Rattle.links.specs.Order.{before_all, ascending, proper}
-
--- what stands for a link past the last
-abbrev pub no_link : Link
-no_link = record { low = 0; high = 0 }
+use Rattle.links.specs.Order.{before_all, ascending, proper, no_link}
 
 pub before_trans : (a b c : Link) → before a b ≡ true → before b c ≡ true → before a c ≡ true
 before_trans a b c p q = grind (arith, nat_tests)
@@ -28,6 +24,10 @@ same_self a = grind (arith, nat_tests)
 
 pub not_back : (a b : Link) → before a b ≡ true → before b a ≡ false
 not_back a b p = grind (arith, nat_tests)
+
+-- not in the one order and not the same: in the other order
+pub before-rest : (a b : Link) → before a b ≡ false → (a ≡ b → ⊥) → before b a ≡ true
+before-rest a b p n = ⊎_elim (λ e. e) (λ e. absurd (n (neither_same a b p e))) (cases_Bool (before b a))
 
 -- membership and its test
 pub in-is_in : (l : Link) (xs : List Link) → In l xs → is_in l xs ≡ true

@@ -1,5 +1,5 @@
 -- Lists of links that ascend, and where a link belongs in one.
-use Rattle.std.specs.Prelude.{◌≡◌, ℕ, ◌≤◌, Bool, true, false, cond, ◌&&◌, List, [], ◌∷◌, length, Ok, Err, Result}
+use Rattle.std.specs.Prelude.{◌≡◌, ℕ, ◌<◌, ◌≤◌, Bool, true, false, cond, ◌&&◌, List, [], ◌∷◌, length, Ok, Err, Result, slice_index_or}
 use Rattle.std.specs.List.{insert}
 use Rattle.model.specs.declared.link.Link.{Link}
 use Rattle.model.specs.Links.{before, is_link}
@@ -24,6 +24,16 @@ proper (x ∷ xs) = is_link x && proper xs
 abbrev pub insert_link : Link → List Link → List Link
 insert_link l [] = l ∷ []
 insert_link l (x ∷ xs) = cond (before l x) (l ∷ x ∷ xs) (cond (before x l) (x ∷ insert_link l xs) (x ∷ xs))
+
+-- what stands for a link past the last
+abbrev pub no_link : Link
+no_link = record { low = 0; high = 0 }
+
+-- at is the place of l: the links below it come before l, and those from it on do not
+pub record Place (l : Link) (xs : List Link) (at : ℕ) : Type 0 where
+  pub within : at ≤ length xs
+  pub below : (k : ℕ) → k < at → before (slice_index_or xs k no_link) l ≡ true
+  pub above : (k : ℕ) → at ≤ k → k < length xs → before (slice_index_or xs k no_link) l ≡ false
 
 -- what a search for l says: l is in; or else it is not, and belongs at this place
 abbrev pub Found : Link → List Link → Result ℕ ℕ → Type 0

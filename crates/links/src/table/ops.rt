@@ -4,7 +4,7 @@ ghost use Rattle.std.specs.List.{slice_get};
 ghost use Rattle.model.specs.Links.{link_of};
 ghost use Rattle.model.specs.Rows.{is_in};
 ghost use Rattle.links.specs.Histories.{OrderIsFree, RowTaken, RowsSettleTheLinks};
-ghost use Rattle.links.specs.Order.{Found, ascending, proper};
+ghost use Rattle.links.specs.Order.{Found, Place, ascending, proper};
 ghost use Rattle.links.specs.Rows.{Joined};
 ghost use Rattle.links.specs.Tables.{links_of};
 
@@ -73,13 +73,33 @@ impl LinkTable {
 }
 
 // The place where `link` is among ascending links, or else the place where it belongs.
-#[tactic(auto, using(crate::proofs::Finding::searched))]
 fn find(links: &[Link], link: Link) -> Result<usize, usize>
     requires order { ascending links.now ≡ true }
     requires ends { proper links.now ≡ true }
     ensures { Found link links.now result }
 {
-    links.binary_search(&link)
+    found_at(links, link, place(links, link))
+}
+
+// How many of ascending links come before `link`.
+fn place(links: &[Link], link: Link) -> usize
+    requires { ascending links.now ≡ true }
+    ensures { Place link links.now result }
+{
+    links.partition_point(|other| other.is_before(link))
+}
+
+// Whether `link` stands at its place. (Apart from `find`: its cases need answers, and an edit of the place is to be refused at its clause.)
+fn found_at(links: &[Link], link: Link, at: usize) -> Result<usize, usize>
+    requires order { ascending links.now ≡ true }
+    requires ends { proper links.now ≡ true }
+    requires place { Place link links.now at }
+    ensures { Found link links.now result }
+{
+    match links.get(at) {
+        Some(here) if *here == link => Ok(at),
+        _ => Err(at),
+    }
 }
 
 // The link of a row, unless the row's ends are equal.
