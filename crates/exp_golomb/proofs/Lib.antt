@@ -1,4 +1,3 @@
 mod Handing
 mod Parsing
-mod Reversing
 mod Symbols

@@ -56,12 +56,15 @@ impl Parts {
         Parts { zeros, low }
     }
 
-    // The bits after the one bit, in the other order. (Where there are none the shift is by 64, and any number serves.)
+    // The bits after the one bit, in the other order. (One by one: std's reverse_bits is a loop of 64 rounds, and here are mostly few.)
     fn turned(self) -> u64
         ensures { low_bits self.zeros result ≡ in_bits self.zeros self.low }
     {
-        let turned = self.low.reverse_bits();
-        turned.checked_shr(64 - self.zeros).unwrap_or(0)
+        let mut out: u64 = 0;
+        for i in 0..self.zeros {
+            out = 2 * out + (self.low >> i) % 2;
+        }
+        out
     }
 }
 
