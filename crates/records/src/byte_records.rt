@@ -91,13 +91,13 @@ impl<B: Bytes> ReadWords<u32, Queue> for ByteRecords<B> {
 
     ghost reads = { StoreTook B.items };
 
+    // (Before the room's end the record number counts as it is. Told by `pos`, a read need not work out `held` once more.)
     fn read(&mut self) -> Result<Option<u32>, ReadFault> {
-        let at = self.held();
-        if at == self.room() {
+        if self.held() >= self.room() {
             return Ok(None);
         }
-        let word = self.word(at)?;
-        self.pos = at + 1;
+        let word = self.word(self.pos)?;
+        self.pos += 1;
         Ok(Some(word))
     }
 }

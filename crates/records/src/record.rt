@@ -24,29 +24,34 @@ pub fn check_records(len: usize, pos: usize) -> Result<(), RecordError>
 }
 
 // The word of a record that the bytes have, or the fault that it is. (That they have it is of the bytes and a place together: a type for it
-// would hold the bytes.)
-#[tactic(auto, using(crate::proofs::Chunks::chunk_byte))]
+// would hold the bytes. By index: `as_chunks` would divide by 5 once more, and copy the five bytes.)
 pub(crate) fn record_at(bytes: &[u8], at: usize) -> Result<u32, ReadFault>
     requires { 5 * at + 5 ≤ length bytes.now }
     ensures { RecordRead (place_at bytes.now at) result }
 {
-    let (records, _) = bytes.as_chunks::<RECORD_BYTES>();
-    let [a, b, c, d, ones] = records[at];
-    let word = u32::from_le_bytes([a, b, c, d]);
-    if u32::from(ones) != word.count_ones() {
+    let start = RECORD_BYTES * at;
+    let word = u32::from_le_bytes([
+        bytes[start],
+        bytes[start + 1],
+        bytes[start + 2],
+        bytes[start + 3],
+    ]);
+    if u32::from(bytes[start + 4]) != word.count_ones() {
         return Err(ReadFault { place: at as u64 });
     }
     Ok(word)
 }
 
-// Writes the record of a word where the bytes have its place.
-#[tactic(auto, using(crate::proofs::Chunks::put_five))]
+// Writes the record of a word where the bytes have its place. (By index: `copy_from_slice` would call memcpy for the five bytes.)
 pub(crate) fn put_record(bytes: &mut [u8], at: usize, word: u32)
     requires { 5 * at + 5 ≤ length bytes.old }
     ensures { bytes.new ≡ put_record bytes.old at word }
 {
     let start = RECORD_BYTES * at;
     let [a, b, c, d] = word.to_le_bytes();
-    let record = [a, b, c, d, word.count_ones() as u8];
-    bytes[start..start + RECORD_BYTES].copy_from_slice(&record);
+    bytes[start] = a;
+    bytes[start + 1] = b;
+    bytes[start + 2] = c;
+    bytes[start + 3] = d;
+    bytes[start + 4] = word.count_ones() as u8;
 }

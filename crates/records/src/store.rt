@@ -32,7 +32,7 @@ impl<'a> WriteWords<u32> for RecordStore<'a> {
 
     fn write(&mut self, word: u32) -> Result<(), BoundedWriteError> {
         let at = self.held();
-        if at == self.room() {
+        if at >= self.room() {
             return Err(BoundedWriteError::OutOfSpace);
         }
         put_record(self.bytes, at, word);
