@@ -42,7 +42,7 @@ pub(crate) fn record_at(bytes: &[u8], at: usize) -> Result<u32, ReadFault>
     Ok(word)
 }
 
-// Writes the record of a word where the bytes have its place. (By index: `copy_from_slice` would call memcpy for the five bytes.)
+// Writes the record of a word where the bytes have its place. (By index: `copy_from_slice` costs more for five bytes.)
 pub(crate) fn put_record(bytes: &mut [u8], at: usize, word: u32)
     requires { 5 * at + 5 ≤ length bytes.old }
     ensures { bytes.new ≡ put_record bytes.old at word }
