@@ -24,19 +24,16 @@ pub fn check_records(len: usize, pos: usize) -> Result<(), RecordError>
 }
 
 // The word of a record that the bytes have, or the fault that it is. (That they have it is of the bytes and a place together: a type for it
-// would hold the bytes. By index: `as_chunks` would divide by 5 once more, and copy the five bytes.)
+// would hold the bytes.)
+#[tactic(auto, using(crate::proofs::Chunks::chunk_byte))]
 pub(crate) fn record_at(bytes: &[u8], at: usize) -> Result<u32, ReadFault>
     requires { 5 * at + 5 ≤ length bytes.now }
     ensures { RecordRead (place_at bytes.now at) result }
 {
-    let start = RECORD_BYTES * at;
-    let word = u32::from_le_bytes([
-        bytes[start],
-        bytes[start + 1],
-        bytes[start + 2],
-        bytes[start + 3],
-    ]);
-    if u32::from(bytes[start + 4]) != word.count_ones() {
+    let (records, _) = bytes.as_chunks::<RECORD_BYTES>();
+    let [a, b, c, d, ones] = records[at];
+    let word = u32::from_le_bytes([a, b, c, d]);
+    if u32::from(ones) != word.count_ones() {
         return Err(ReadFault { place: at as u64 });
     }
     Ok(word)
